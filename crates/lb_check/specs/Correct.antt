@@ -1,6 +1,6 @@
 -- The promise of a check of a program to the layer above.
 -- This file says what data of the program mean; no definition of the language stands on it.
-use Rattle.std.specs.Prelude.{◌≡◌, Option, Some, None, Result, Ok, Err, string_bytes}
+use Rattle.std.specs.Prelude.{◌≡◌, Some, None, Result, Ok, Err, string_bytes}
 use Rattle.lb_syntax.specs.Refusals.{E9, E10, E11}
 use Rattle.lb_static.specs.Instances.{Program}
 use Rattle.lb_check.specs.declared.checked.Checked.{Checked}
@@ -31,8 +31,3 @@ IsAnswer P (Err (error.Definition e)) =
     (check_refusal P ≡ Some E11)
     × IsBrokenIn (λ here. is_defined P here.node) (λ here. is_part_defined P here.node) P
     (string_bytes e.value.node) e.value.part
-
--- the found refusal is right: the first of these rules that the program breaks, or none
-abbrev pub IsRefusal : Program → Option CheckError → Type 0
-IsRefusal P None = check_refusal P ≡ None
-IsRefusal P (Some e) = IsAnswer P (Err e)

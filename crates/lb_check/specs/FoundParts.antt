@@ -1,8 +1,9 @@
 -- The part of a node that breaks a rule, as the code finds it.
--- This file mirrors code (src/type_rules.rt, src/clock_rules.rt, src/definition_rules.rt); no
+-- This file mirrors code (src/judged_types.rt, src/clock_rules.rt, src/definition_rules.rt); no
 -- definition of the language stands on it.
 use Rattle.std.specs.Prelude.{◌≡◌, ◌≢◌, ℕ, ◌<◌, Bool, true, false, Option, Some, None, List}
-use Rattle.std.specs.Prelude.{slice_get}
+use Rattle.std.specs.Prelude.{Result, Ok, Err, Vec, get_or, length, slice_get}
+use Rattle.std.specs.Global.{Global}
 use Rattle.lb_syntax.specs.Tree.{Node}
 use Rattle.lb_static.specs.DataTypes.{variables}
 use Rattle.lb_static.specs.ReachedNodes.{tree_at}
@@ -14,12 +15,16 @@ use Rattle.lb_static.specs.declared.resolved.ResolvedNode.{ResolvedNode}
 use Rattle.lb_static.specs.declared.resolved.ResolvedStatement.{ResolvedStatement}
 use Rattle.lb_static.specs.declared.table.Specialization.{Specialization}
 use Rattle.lb_static.specs.declared.table.Table.{Table}
+use Rattle.lb_check.specs.declared.found_types.NodeTypes.{NodeTypes}
+use Rattle.lb_check.specs.declared.judged_types.IllTyped.{IllTyped}
 use Rattle.lb_check.specs.declared.part.Part.{Part}
 use Rattle.lb_check.specs.declared.part.Part.TheVariants as part
-use Rattle.lb_check.specs.BrokenParts.{at_place, is_declared_clock, is_part_defined}
+use Rattle.lb_check.specs.BrokenParts.{at_place, first_broken, is_declared_clock, is_part_defined}
 use Rattle.lb_check.specs.ClockRules.{are_declared_clocks}
 use Rattle.lb_check.specs.NodeClocks.{is_clocked_at}
 use Rattle.lb_check.specs.NodeDefinitions.{count_statements, is_defined_at, wanted_count}
+use Rattle.lb_check.specs.PlacedTypes.{Kept, AreFound, AreKept, found_in, nothing_found}
+use Rattle.lb_check.specs.PlacedTypes.{specialization_types}
 use Rattle.lb_check.specs.TermClocks as clocks
 use Rattle.lb_check.specs.TermClocks.{is_resolved_statement_clocked}
 use Rattle.lb_check.specs.TermTypes.{Context, context_of, is_specialization_typed}
@@ -39,16 +44,30 @@ IsIllTyped r t s p =
     × ((n : ResolvedNode) → slice_get r.nodes.items s.node.0 ≡ Some n →
     is_part_typed_in (context_of r t n s) n p ≡ false)
 
--- a part that breaks the rules of types, or none where the specialization keeps them
-abbrev pub IsTypedPart : Reached → Table → Specialization → Option Part → Type 0
-IsTypedPart r t s None = is_specialization_typed r t s ≡ true
-IsTypedPart r t s (Some p) = IsIllTyped r t s p
+-- the types of the terms of a specialization that keeps the rules of types are found, or else a
+-- part breaks these rules
+abbrev pub IsJudgedSpecialization :
+    Reached → Table → Specialization → (before after : Kept) → Result NodeTypes Part → Type 0
+IsJudgedSpecialization r t s before after (Ok f) =
+    (is_specialization_typed r t s ≡ true)
+    × AreKept (specialization_types r t s) before after nothing_found (found_in f)
+IsJudgedSpecialization r t s before after (Err p) = IsIllTyped r t s p
 
 -- the specialization at `place` is of node `id`, and breaks the rules of types in part `p`
 abbrev pub IsIllTypedAt : Reached → Table → (place : ℕ) → NodeId → Part → Type 0
 IsIllTypedAt r t place id p =
     (s : Specialization) × (slice_get t.specializations.items place ≡ Some s) × (s.node ≡ id)
     × IsIllTyped r t s p
+
+-- the types of the terms of each specialization are found, or else the first specialization that
+-- breaks the rules of types, with a part that does
+abbrev pub AreJudgedTypes :
+    Reached → Table → Result (Option (Vec NodeTypes Global)) IllTyped → Type 0
+AreJudgedTypes r t (Ok found) =
+    (None ≡ first_broken (is_specialization_typed r t) t.specializations.items) × AreFound r t found
+AreJudgedTypes r t (Err f) =
+    (Some f.place ≡ first_broken (is_specialization_typed r t) t.specializations.items)
+    × IsIllTypedAt r t f.place f.node f.part
 
 -- ## Clocks
 
@@ -78,6 +97,20 @@ IsIllClocked r id p =
 abbrev pub IsClockedPart : Reached → NodeId → Option Part → Type 0
 IsClockedPart r id None = is_clocked_at r id ≡ true
 IsClockedPart r id (Some p) = IsIllClocked r id p
+
+-- the first part that breaks the rules of clocks, from the places of the first declared clock and
+-- of the first statement that do
+abbrev pub broken_part : Option ℕ → Option ℕ → Option Part
+broken_part (Some i) s = Some (part.Variable (record { 0 = i }))
+broken_part None (Some j) = Some (part.Statement j)
+broken_part None None = None
+
+-- of each reached node, its part breaks the rules of clocks, or the node keeps them and has none
+abbrev pub AreClockedParts : Reached → List (Option Part) → Type 0
+AreClockedParts r parts =
+    (length parts ≡ length r.nodes.items)
+    × ((i : ℕ) (p : Option Part) → i < length parts → p ≡ get_or parts i p →
+    IsClockedPart r (record { 0 = i }) p)
 
 -- ## Definitions
 

@@ -1,7 +1,7 @@
 -- The clock on which each part of a term stands, and what is found of its calls, as the code places
 -- them.
--- This file mirrors code (src/placed_clock.rt, src/given_variables.rt, src/found_clocks.rt); no
--- definition of the language stands on it.
+-- This file mirrors code (src/placed_clock.rt, src/clock_rules.rt, src/given_variables.rt,
+-- src/found_clocks.rt); no definition of the language stands on it.
 use Rattle.std.specs.Prelude.{◌≡◌, ℕ, zero, suc, ◌+◌, ◌<◌, nat_eq, Bool, false, if◌then◌else◌}
 use Rattle.std.specs.Prelude.{Option, Some, None, option_map, List, [], ◌∷◌, ◌++◌, map, flat_map}
 use Rattle.std.specs.Prelude.{length, take, get_or}
@@ -151,10 +151,11 @@ nested_call k os (Some n) = record { runs = call_base k n os; given = given_vari
 abbrev pub side_base : Context → ResolvedNode → List Operand → List VariableId → Clock
 side_base ctx n os lefts = either_or (result_base ctx n os lefts) Base
 
-abbrev pub side_clocks : Context → List VariableId → CallId → List Operand → List Clock
-side_clocks ctx lefts c os =
+abbrev pub side_clocks :
+    Context → List VariableId → List Operand → Option ResolvedNode → List Clock
+side_clocks ctx lefts os callee =
     listed (λ n. argument_clocks (side_base ctx n os lefts) (stands_for n.inputs os lefts) n)
-    (ctx.callee c)
+    callee
 
 abbrev pub side_call :
     Context → List VariableId → List Operand → Option ResolvedNode → FoundCall
@@ -239,17 +240,17 @@ placed_each ctx (k ∷ ks) (e ∷ es) = placed_terms ctx k e ++ placed_each ctx 
 
 -- the found terms of a call that is a whole right side
 abbrev pub placed_call :
-    Context → List VariableId → CallId → List Operand → List Term → List FoundTerm
-placed_call ctx lefts c os es =
-    called (left_clock ctx lefts) (side_call ctx lefts os (ctx.callee c))
-    ∷ placed_each ctx (side_clocks ctx lefts c os) es
+    Context → List VariableId → List Operand → List Term → Option ResolvedNode → List FoundTerm
+placed_call ctx lefts os es callee =
+    called (left_clock ctx lefts) (side_call ctx lefts os callee)
+    ∷ placed_each ctx (side_clocks ctx lefts os callee) es
 
 -- the found terms of the right side of an equation
 unfoldable pub placed_side : Context → List VariableId → Term → List FoundTerm
 placed_side ctx lefts (Group' p e) = placed_side ctx lefts e
 placed_side ctx lefts (Call' c arity all) =
     called (left_clock ctx lefts) (side_call ctx lefts (operands_in ctx all) (ctx.callee c))
-    ∷ placed_arguments ctx (side_clocks ctx lefts c (operands_in ctx all)) all
+    ∷ placed_arguments ctx (side_clocks ctx lefts (operands_in ctx all) (ctx.callee c)) all
 placed_side ctx lefts e = placed_terms ctx (left_clock ctx lefts) e
 
 abbrev pub placed_statement : Context → ResolvedStatement → List FoundTerm

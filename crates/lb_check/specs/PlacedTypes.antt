@@ -1,8 +1,8 @@
 -- The types of the results of each part of a term, as a walk over the term finds them, and the part
 -- of them that is kept.
--- This file mirrors code (src/types.rt, src/part_types.rt, src/placed_types.rt and
--- src/found_types.rt); no definition of the language stands on it.
-use Rattle.std.specs.Prelude.{◌≡◌, ℕ, ◌-◌, ◌<◌, ◌≤◌, Bool, false, min, nat_eq, Option, Some, None}
+-- This file mirrors code (src/types.rt, src/part_types.rt, src/type_rules.rt, src/judged_types.rt
+-- and src/found_types.rt); no definition of the language stands on it.
+use Rattle.std.specs.Prelude.{◌≡◌, ◌≢◌, ℕ, ◌-◌, ◌<◌, Bool, false, min, nat_eq, Option, Some, None}
 use Rattle.std.specs.Prelude.{List, Vec, [], ◌∷◌, ◌++◌, flat_map, length, map, reverse, take, drop}
 use Rattle.std.specs.Prelude.{slice_get, sum_by, if◌then◌else◌}
 use Rattle.std.specs.Global.{Global}
@@ -22,7 +22,8 @@ use Rattle.lb_static.specs.declared.resolved.Term.{Current', When', Replicate', 
 use Rattle.lb_static.specs.declared.resolved.Term.{Join', Array', AtMostOne', Nor', Call'}
 use Rattle.lb_static.specs.declared.resolved.Term.{IterateNode', IterateSymbol', Row_of-Term}
 use Rattle.lb_static.specs.declared.resolved.Term.{end_of-Term, more_of-Term}
-use Rattle.lb_check.specs.TermTypes.{Context, context_of, results, type_of}
+use Rattle.lb_check.specs.TermTypes.{Context, context_of, is_resolved_statement_typed}
+use Rattle.lb_check.specs.TermTypes.{results, type_of}
 use Rattle.lb_check.specs.Types.{only}
 use Rattle.lb_check.specs.declared.found_types.NodeTypes.{NodeTypes}
 use Rattle.lb_check.specs.declared.found_types.TermType.{TermType}
@@ -147,6 +148,18 @@ abbrev pub IsWalked : Context → Term → (before after : Kept) → Option Data
 IsWalked ctx e before after own =
     (own ≡ type_of ctx e) × (after ≡ kept before (placed_types ctx e))
 
+-- a walk over a right side notes its parts, the last one first, and finds the types of its results
+abbrev pub IsSideWalked : Context → Term → (before after : Kept) → FoundTypes → Type 0
+IsSideWalked ctx e before after given =
+    (given ≡ results ctx e) × (after ≡ kept before (placed_types ctx e))
+
+-- a walk over a statement notes the parts of its right side, and finds whether it keeps the rules
+-- of types
+abbrev pub IsStatementWalked :
+    Context → ResolvedStatement → (before after : Kept) → (typed : Bool) → Type 0
+IsStatementWalked ctx s before after typed =
+    (typed ≡ is_resolved_statement_typed ctx s) × (after ≡ kept before (statement_types ctx s))
+
 -- a walk over terms in a row notes their parts, the last one first, and finds `given` from their
 -- types
 abbrev pub IsRowWalked :
@@ -212,10 +225,13 @@ abbrev pub AreMoved : (before after : Kept) → (found more : FoundNode) → Typ
 AreMoved before after found more =
     (after ≡ record before { found = [] }) × (more ≡ with_parts found (reverse before.found))
 
--- all terms are found, or they have `many` scalar elements or more
-abbrev pub AreNoted : ℕ → List FoundTypes → Option FoundNode → Type 0
-AreNoted many os None = many ≤ sum_by part_size os
-AreNoted many os (Some f) = f ≡ with_terms nothing_found os
+-- the elements of the terms `os` are taken from those that are left, and all these terms are moved
+-- to the found node, as long as there are not too many
+abbrev pub AreKept : List FoundTypes → (before after : Kept) → (found more : FoundNode) → Type 0
+AreKept os before after found more =
+    (after.found ≡ [])
+    × (after.left ≡ before.left - sum_by part_size os)
+    × (after.left ≢ 0 → more ≡ with_terms found os)
 
 -- the found node of a specialization
 abbrev pub found_of : Reached → Table → Specialization → FoundNode

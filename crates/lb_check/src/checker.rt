@@ -1,46 +1,71 @@
 //! Types, clocks and definitions of a program (E9, E10, E11).
 
-ghost use Rattle.std.specs.Prelude.{◌≡◌, IfOk};
+ghost use Rattle.std.specs.Prelude.{◌≡◌, IfOk, MatchResult, map};
 ghost use Rattle.lb_static.specs.Elaborated.{elaborated_program, IsLawful};
 ghost use Rattle.lb_static.specs.Instances.{Program};
-ghost use Rattle.lb_check.specs.Correct.{IsAnswer, IsRefusal};
+ghost use Rattle.lb_check.specs.Acceptance.{check_refusal};
+ghost use Rattle.lb_check.specs.Correct.{IsAnswer};
 ghost use Rattle.lb_check.specs.JudgedPrograms.{IsJudged};
+ghost use Rattle.lb_check.specs.PlacedClocks.{found_in, node_terms, nothing_found, with_terms};
+ghost use Rattle.lb_check.specs.PlacedTypes.{AreFound};
 
 use crate::checked::{Checked, Checking};
 use crate::clock_cause::clock_fault;
-use crate::clock_rules::ill_clocked;
+use crate::clock_rules::program_clocks;
 use crate::definition_cause::definition_fault;
 use crate::definition_rules::ill_defined;
 use crate::error::CheckError;
-use crate::placed_clock::placed_clocks;
-use crate::placed_types::placed_types;
+use crate::found_clocks::NodeClocks;
+use crate::found_types::NodeTypes;
+use crate::judged_types::judged_types;
 use crate::type_cause::type_fault;
-use crate::type_rules::ill_typed;
 use lb_static::{Elab, Reached, Table};
 use std::alloc::{AllocError, Global};
 
-/// The first of the rules of types (E9), clocks (E10) and definitions (E11) that a program breaks,
-/// each over all instances, with its fault; none where the program keeps them.
-fn broken_rule(
+/// What is found of a program that keeps the rules of types, clocks and definitions.
+#[derive(Drop)]
+struct Found {
+    /// The clocks of the terms of each reached node.
+    clocks: Vec<NodeClocks>,
+    /// The types of the terms of each specialization, or none where they are too many.
+    types: Option<Vec<NodeTypes>>,
+}
+
+/// The clocks and types of the terms of a program; or the first of the rules of types (E9), clocks
+/// (E10) and definitions (E11) that it breaks, each over all instances, with its fault.
+fn judged_program(
     alloc: Global,
     reached: &Reached,
     table: &Table,
-) -> Result<Option<CheckError>, AllocError>
-    ensures { (P : Program) → IsJudged P reached.now table.now → IfOk result (IsRefusal P) }
+) -> Result<Result<Found, CheckError>, AllocError>
+    ensures answer { (P : Program) → IsJudged P reached.now table.now → IfOk result (λ found.
+        MatchResult found (λ _. check_refusal P ≡ None) (λ e. IsAnswer P (Err e))) }
+    ensures clocks { IfOk result (λ found. IfOk found (λ f. map found_in f.clocks.items
+        ≡ map (λ n. with_terms nothing_found (node_terms reached.now n))
+        reached.now.nodes.items)) }
+    ensures types { IfOk result (λ found. IfOk found (λ f.
+        AreFound reached.now table.now f.types)) }
 {
-    if let Some(found) = ill_typed(alloc, reached, table)? {
-        let fault = type_fault(alloc, reached, table, found)?;
-        return Ok(Some(CheckError::Type(Box::new(alloc, fault)?)));
-    }
-    if let Some(found) = ill_clocked(alloc, reached, table)? {
+    let types = match judged_types(alloc, reached, table)? {
+        Ok(types) => types,
+        Err(found) => {
+            let fault = type_fault(alloc, reached, table, found)?;
+            return Ok(Err(CheckError::Type(Box::new(alloc, fault)?)));
+        }
+    };
+    let program = program_clocks(alloc, reached, table)?;
+    if let Some(found) = program.broken {
         let fault = clock_fault(alloc, reached, table, found)?;
-        return Ok(Some(CheckError::Clock(Box::new(alloc, fault)?)));
+        return Ok(Err(CheckError::Clock(Box::new(alloc, fault)?)));
     }
     if let Some(found) = ill_defined(alloc, reached, table)? {
         let fault = definition_fault(alloc, reached, table, found)?;
-        return Ok(Some(CheckError::Definition(Box::new(alloc, fault)?)));
+        return Ok(Err(CheckError::Definition(Box::new(alloc, fault)?)));
     }
-    Ok(None)
+    Ok(Ok(Found {
+        clocks: program.clocks,
+        types,
+    }))
 }
 
 /// Checks an elaborated program: the first of the rules of types (E9), clocks (E10) and definitions
@@ -51,16 +76,12 @@ pub fn check<'s>(alloc: Global, elab: Elab<'s>) -> Result<Checked<'s>, CheckErro
     ensures same { IfOk result (λ c. c.elab ≡ elab.entry) }
     ensures lawful { IsLawful elab.entry }
 {
-    match broken_rule(alloc, elab.reached(), elab.table())? {
-        Some(error) => Err(error),
-        None => {
-            let clocks = placed_clocks(alloc, elab.reached())?;
-            let types = placed_types(alloc, elab.reached(), elab.table())?;
-            Ok(Checked::new(Checking {
-                elab,
-                clocks,
-                types,
-            }))
-        }
+    match judged_program(alloc, elab.reached(), elab.table())? {
+        Err(error) => Err(error),
+        Ok(found) => Ok(Checked::new(Checking {
+            elab,
+            clocks: found.clocks,
+            types: found.types,
+        })),
     }
 }

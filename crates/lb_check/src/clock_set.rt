@@ -44,6 +44,16 @@ impl ClockSet {
         }
     }
 
+    /// Whether the set accepts a clock at all.
+    pub fn stands(self) -> bool
+        ensures { result ≡ mirror.stands self }
+    {
+        match self {
+            ClockSet::NoClock => false,
+            ClockSet::AnyClock | ClockSet::OneClock(_) => true,
+        }
+    }
+
     /// Whether the set accepts this clock, if there is one.
     pub fn accepts_clock(self, clock: Option<Clock>) -> bool
         ensures { result ≡ mirror.accepts_clock clock self }

@@ -33,6 +33,16 @@ pub struct NodeTypes {
 }
 
 impl NodeTypes {
+    /// The found types of no terms.
+    pub(crate) fn none(alloc: Global) -> NodeTypes
+        ensures { placed_mirror.found_in result ≡ placed_mirror.nothing_found }
+    {
+        NodeTypes {
+            terms: Vec::new(alloc),
+            sizes: Vec::new(alloc),
+        }
+    }
+
     /// Notes the kind of a term, its sizes and the number of its scalar elements.
     pub(crate) fn note(
         &mut self,

@@ -1,7 +1,7 @@
 //! The types that are kept of the parts of a term while they are found, up to a number of scalar
 //! elements.
 
-ghost use Rattle.std.specs.Prelude.{◌≡◌, min, option_map, IfOk, OnOk};
+ghost use Rattle.std.specs.Prelude.{◌≡◌, min, option_map, IfOk, OnOk, []};
 ghost use Rattle.lb_syntax.specs.Lists as lists;
 ghost use Rattle.lb_syntax.specs.Lists.{all_some};
 ghost use Rattle.lb_static.specs.DataTypes.{element_count};
@@ -52,6 +52,16 @@ fn given_size(alloc: Global, given: &TypeRow) -> Result<u32, AllocError>
 }
 
 impl PartTypes {
+    /// Parts that are kept until they have more than 65,536 scalar elements.
+    pub fn all(alloc: Global) -> PartTypes
+        ensures { placed_mirror.kept_in result ≡ record { left = 65537; found = [] } }
+    {
+        PartTypes {
+            left: TOO_MANY,
+            found: Vec::new(alloc),
+        }
+    }
+
     /// Parts of which none is kept.
     pub fn none(alloc: Global) -> PartTypes {
         PartTypes {

@@ -1,25 +1,22 @@
-//! The clocks on which terms stand and calls run, from the statements of a node down.
+//! The clocks on which terms stand and calls run, from the clock of a term down to its operands.
 
-ghost use Rattle.std.specs.Prelude.{◌≡◌, ◌++◌, IfOk, OnOk, drop, map, slice_get};
+ghost use Rattle.std.specs.Prelude.{◌≡◌, IfOk, OnOk, drop, slice_get};
 ghost use Rattle.lb_syntax.specs.Lists.{listed};
 ghost use Rattle.lb_check.specs.PlacedClocks as placed_mirror;
 ghost use Rattle.lb_check.specs.StoredClocks.{context_in, given_in};
-ghost use Rattle.lb_check.specs.TermClocks as mirror;
 ghost use Rattle.lb_check.specs.WalkedClocks.{known_among, known_operands};
 
-use crate::call_clock::{Given, base_clock, expected, inputs_of, result_clock};
-use crate::clock_rules::left_clock;
+use crate::call_clock::{Given, base_clock, expected, inputs_of};
 use crate::clock_set::{ClockSet, Operand};
 use crate::found_clocks::{CallClock, NodeClocks};
 use crate::given_variables::given_variables;
 use crate::own_clock::Clock;
 use crate::term_clock::ClockEnv;
-use crate::walked_clocks::infer;
-use lb_static::{CallId, Reached, ResolvedNode, ResolvedStatement, Term, VariableId, part_of};
+use lb_static::{CallId, ResolvedNode, Term, part_of};
 use std::alloc::{AllocError, Global};
 
 /// The clock that a set determines, or the base clock where it determines none.
-fn determined_clock(clock_set: ClockSet) -> Clock
+pub fn determined_clock(clock_set: ClockSet) -> Clock
     ensures { result ≡ placed_mirror.determined_clock clock_set }
 {
     match clock_set {
@@ -56,7 +53,7 @@ fn past(known: &[Operand], count: usize) -> &[Operand]
 }
 
 /// The clocks of the arguments of a callee that runs on this clock.
-fn argument_clocks(
+pub fn argument_clocks(
     alloc: Global,
     base: Clock,
     given: &Given,
@@ -124,68 +121,6 @@ fn nested_call(
         }),
         None => Ok(CallClock {
             runs: clock,
-            given: Vec::new(alloc),
-        }),
-    }
-}
-
-/// The clock on which the callee of a call runs that is the whole right side of an equation.
-fn side_base(
-    alloc: Global,
-    env: &ClockEnv,
-    callee: &ResolvedNode,
-    operands: &[Operand],
-    lefts: &[VariableId],
-) -> Result<Clock, AllocError>
-    ensures { IfOk result (λ base. base
-        ≡ placed_mirror.side_base (context_in env.now) callee.now operands.now lefts.now) }
-{
-    match result_clock(alloc, env, callee, operands, lefts)? {
-        Some(base) => Ok(base),
-        None => Ok(Clock::Base),
-    }
-}
-
-/// The clocks of the arguments of a call that is the whole right side of an equation.
-fn side_clocks(
-    alloc: Global,
-    env: &ClockEnv,
-    lefts: &[VariableId],
-    call: CallId,
-    operands: &[Operand],
-) -> Result<Vec<Clock>, AllocError>
-    ensures { IfOk result (λ clocks. clocks.items
-        ≡ placed_mirror.side_clocks (context_in env.now) lefts.now call operands.now) }
-{
-    match env.callee(call) {
-        Some(callee) => {
-            let base = side_base(alloc, env, callee, operands, lefts)?;
-            let given = &Given::Whole(callee.inputs, operands, lefts);
-            argument_clocks(alloc, base, given, callee)
-        }
-        None => Ok(Vec::new(alloc)),
-    }
-}
-
-/// The clock and the given variables of a call that is the whole right side of an equation.
-fn side_call(
-    alloc: Global,
-    env: &ClockEnv,
-    lefts: &[VariableId],
-    call: CallId,
-    operands: &[Operand],
-) -> Result<CallClock, AllocError>
-    ensures { IfOk result (λ found. placed_mirror.call_in found
-        ≡ placed_mirror.side_call (context_in env.now) lefts.now operands.now
-        ((context_in env.now).callee call)) }
-{
-    match env.callee(call) {
-        Some(callee) => Ok(CallClock {
-            runs: side_base(alloc, env, callee, operands, lefts)?,
-            given: given_variables(alloc, callee, operands, lefts)?,
-        }),
-        None => Ok(CallClock {
-            runs: left_clock(env, lefts),
             given: Vec::new(alloc),
         }),
     }
@@ -274,7 +209,7 @@ fn place_argument<'k>(
 /// operands of others.
 #[inline(always)]
 #[cycle(placing)]
-fn place_each<'k>(
+pub fn place_each<'k>(
     alloc: Global,
     env: &ClockEnv,
     clocks: &[Clock],
@@ -298,7 +233,7 @@ fn place_each<'k>(
 /// Notes the clocks of the parts of a term that stands on this clock, in text order, and returns
 /// the known operands of others.
 #[cycle(placing)]
-fn place<'k>(
+pub fn place<'k>(
     alloc: Global,
     env: &ClockEnv,
     clock: Clock,
@@ -365,119 +300,4 @@ fn place<'k>(
             place_each(alloc, env, &clocks, terms, past(known, terms.len()), placed)
         }
     }
-}
-
-/// Notes the clocks of a call that is the whole right side of an equation.
-fn place_call(
-    alloc: Global,
-    env: &ClockEnv,
-    lefts: &[VariableId],
-    call: CallId,
-    terms: &[Term],
-    known: &[Operand],
-    placed: &mut NodeClocks,
-) -> Result<(), AllocError>
-    ensures { known.now ≡ mirror.operands_of (context_in env.now) terms.now
-        ++ known_among (context_in env.now) terms.now →
-        OnOk result (placed_mirror.found_in placed.new ≡ placed_mirror.with_terms
-        (placed_mirror.found_in placed.old)
-        (placed_mirror.placed_call (context_in env.now) lefts.now call
-        (mirror.operands_of (context_in env.now) terms.now) terms.now)) }
-{
-    let operands = part_of(known, 0, terms.len());
-    let found = side_call(alloc, env, lefts, call, operands)?;
-    placed.note_call(left_clock(env, lefts), found)?;
-    let clocks = side_clocks(alloc, env, lefts, call, operands)?;
-    place_each(alloc, env, &clocks, terms, past(known, terms.len()), placed)?;
-    Ok(())
-}
-
-/// Notes the clocks of a term that is a whole right side on this clock.
-fn place_whole(
-    alloc: Global,
-    env: &ClockEnv,
-    clock: Clock,
-    term: &Term,
-    known: &[Operand],
-    placed: &mut NodeClocks,
-) -> Result<(), AllocError>
-    ensures { known.now ≡ known_operands (context_in env.now) term.now →
-        OnOk result (placed_mirror.found_in placed.new ≡ placed_mirror.with_terms
-        (placed_mirror.found_in placed.old)
-        (placed_mirror.placed_terms (context_in env.now) clock term.now)) }
-{
-    place(alloc, env, clock, term, known, placed)?;
-    Ok(())
-}
-
-/// Notes the clocks of the right side of an equation.
-#[tactic(auto, unfolding(crate::specs::PlacedClocks::placed_side))]
-fn place_side(
-    alloc: Global,
-    env: &ClockEnv,
-    lefts: &[VariableId],
-    right: &Term,
-    known: &[Operand],
-    placed: &mut NodeClocks,
-) -> Result<(), AllocError>
-    ensures { known.now ≡ known_operands (context_in env.now) right.now →
-        OnOk result (placed_mirror.found_in placed.new ≡ placed_mirror.with_terms
-        (placed_mirror.found_in placed.old)
-        (placed_mirror.placed_side (context_in env.now) lefts.now right.now)) }
-{
-    match right {
-        Term::Group(e) => place_side(alloc, env, lefts, e, known, placed),
-        Term::Call(call, terms) => place_call(alloc, env, lefts, *call, terms, known, placed),
-        _ => place_whole(alloc, env, left_clock(env, lefts), right, known, placed),
-    }
-}
-
-/// Notes the clocks of a statement.
-fn place_statement(
-    alloc: Global,
-    env: &ClockEnv,
-    statement: &ResolvedStatement,
-    placed: &mut NodeClocks,
-) -> Result<(), AllocError>
-    ensures { OnOk result (placed_mirror.found_in placed.new
-        ≡ placed_mirror.with_terms (placed_mirror.found_in placed.old)
-        (placed_mirror.placed_statement (context_in env.now) statement.now)) }
-{
-    match statement {
-        ResolvedStatement::Equation(lefts, right) => {
-            let found = infer(alloc, env, right)?;
-            place_side(alloc, env, lefts, right, &found.operands, placed)
-        }
-        ResolvedStatement::Assertion(term) => {
-            let found = infer(alloc, env, term)?;
-            let clock = determined_clock(found.clock_set);
-            place_whole(alloc, env, clock, term, &found.operands, placed)
-        }
-    }
-}
-
-/// The clocks of a node: the clock of each term, and the `CallClock` of each call, in text order.
-fn node_clocks(alloc: Global, env: &ClockEnv) -> Result<NodeClocks, AllocError>
-    ensures { IfOk result (λ found. placed_mirror.found_in found
-        ≡ placed_mirror.with_terms placed_mirror.nothing_found
-        (placed_mirror.node_terms env.now.reached.now env.now.node.now)) }
-{
-    let mut placed = NodeClocks::new(alloc);
-    for statement in &env.node.body {
-        place_statement(alloc, env, statement, &mut placed)?;
-    }
-    Ok(placed)
-}
-
-/// The clocks of each reached node.
-pub fn placed_clocks(alloc: Global, reached: &Reached) -> Result<Vec<NodeClocks>, AllocError>
-    ensures { IfOk result (λ all. map placed_mirror.found_in all.items
-        ≡ map (λ n. placed_mirror.with_terms placed_mirror.nothing_found
-        (placed_mirror.node_terms reached.now n)) reached.now.nodes.items) }
-{
-    let mut all = Vec::new(alloc);
-    for node in &reached.nodes {
-        all.push(node_clocks(alloc, &ClockEnv { reached, node })?)?;
-    }
-    Ok(all)
 }

@@ -1,5 +1,5 @@
 //! The shared part of the specializations of a node. A statement that keeps the rules of types by
-//! the shared part alone is judged once for the node.
+//! the shared part alone is judged once for all of them.
 //!
 //! ```text
 //! static values of f<<3>>:     3    9    4
@@ -16,12 +16,13 @@ ghost use Rattle.lb_check.specs.SharedTypes as mirror;
 ghost use Rattle.lb_check.specs.StoredTypes.{context_in};
 ghost use Rattle.lb_check.specs.TermTypes.{context_of, is_resolved_statement_typed};
 
+use crate::part_types::PartTypes;
 use crate::type_env::TypeEnv;
-use crate::type_rules::is_resolved_statement_typed;
+use crate::type_rules::is_statement_typed;
 use lb_static::{NodeId, Reached, Specialization, SpecializationId, StaticInt, Table};
 use std::alloc::{AllocError, Global};
 
-/// The shared part of the specializations of a node.
+/// The shared part of some specializations of a node.
 #[derive(Drop)]
 pub struct SharedPart {
     /// The shared part as a specialization of the node: -1, which is no size and no index, stands
@@ -71,33 +72,35 @@ fn copy(alloc: Global, specialization: &Specialization) -> Result<Specialization
     })
 }
 
-/// A specialization of a node of which nothing is known yet.
-fn blank(alloc: Global, node: NodeId) -> Specialization {
+/// A part of no node, which stands for no specialization.
+fn blank(alloc: Global, reached: &Reached) -> Specialization {
     Specialization {
-        node,
+        node: NodeId(reached.nodes.len()),
         values: Vec::new(alloc),
         statics: Vec::new(alloc),
         callees: Vec::new(alloc),
     }
 }
 
-/// The shared part of the specializations of each reached node. Nothing is promised of it: a
-/// specialization for which it does not stand is judged by itself.
+/// For each reached node, the shared part of its specializations from place `from` on, blank where
+/// there are none. Nothing is promised of it: a specialization for which it does not stand is
+/// judged by itself.
 fn shared_specializations(
     alloc: Global,
     reached: &Reached,
     table: &Table,
+    from: usize,
 ) -> Result<Vec<Specialization>, AllocError> {
     let mut all = Vec::new(alloc);
-    for k in 0..reached.nodes.len() {
-        all.push(blank(alloc, NodeId(k)))?;
+    for _ in 0..reached.nodes.len() {
+        all.push(blank(alloc, reached))?;
     }
-    for specialization in &table.specializations {
+    for specialization in table.specializations.iter().skip(from) {
         if let Some(shared) = all.get_mut(specialization.node.0) {
-            if shared.statics.is_empty() && shared.callees.is_empty() {
-                *shared = copy(alloc, specialization)?;
-            } else {
+            if shared.node.0 == specialization.node.0 {
                 narrow(shared, specialization);
+            } else {
+                *shared = copy(alloc, specialization)?;
             }
         }
     }
@@ -110,8 +113,9 @@ fn typed_statements(alloc: Global, env: &TypeEnv) -> Result<Vec<bool>, AllocErro
         ≡ map (is_resolved_statement_typed (context_in env.now)) env.now.node.now.body.items) }
 {
     let mut settled = Vec::new(alloc);
+    let mut parts = PartTypes::none(alloc);
     for statement in &env.node.body {
-        settled.push(is_resolved_statement_typed(alloc, env, statement)?)?;
+        settled.push(is_statement_typed(alloc, env, statement, &mut parts)?)?;
     }
     Ok(settled)
 }
@@ -140,16 +144,18 @@ fn judged_part(
     Ok(SharedPart { part, settled })
 }
 
-/// The shared part of each reached node, with the statements that keep the rules of types by it.
+/// For each reached node, the shared part of its specializations from place `from` on, with the
+/// statements that keep the rules of types by it.
 pub fn shared_parts(
     alloc: Global,
     reached: &Reached,
     table: &Table,
+    from: usize,
 ) -> Result<Vec<SharedPart>, AllocError>
     ensures { IfOk result (λ parts. mirror.AreJudgedParts reached.now table.now parts.items) }
 {
     let mut parts = Vec::new(alloc);
-    for part in shared_specializations(alloc, reached, table)? {
+    for part in shared_specializations(alloc, reached, table, from)? {
         parts.push(judged_part(alloc, reached, table, part)?)?;
     }
     Ok(parts)

@@ -8,14 +8,15 @@ ghost use Rattle.lb_syntax.specs.Lists.{listed};
 ghost use Rattle.lb_static.specs.ReachedNodes.{tree_at};
 
 use crate::cause::{clock_offset, name_of, part_offset, path_to_specialization};
+use crate::judged_types::IllTyped;
 use crate::operand_types::{common_type, when_truth};
 use crate::part::Part;
+use crate::part_types::PartTypes;
 use crate::signature::{array_type, only_given, signature_of};
 use crate::sites::{Site, left_offset, right_side, ungrouped};
 use crate::type_env::TypeEnv;
 use crate::type_fault::{SourceType, TypeFault, TypeRule};
 use crate::type_reason::{TypeReason, Typed, of_rule, type_reason};
-use crate::type_rules::IllTyped;
 use crate::types::{
     SideTypes, fits_too, given_where, has_arity, like_later, one_type, results, side_types,
     two_types, type_of,
@@ -315,7 +316,7 @@ fn result_at(
     term: &Term,
     place: usize,
 ) -> Result<Option<DataType>, AllocError> {
-    match side_types(alloc, env, term)? {
+    match side_types(alloc, env, term, &mut PartTypes::none(alloc))? {
         SideTypes::Single(own) => Ok(own),
         SideTypes::Several(Some(given)) => given.get(alloc, place),
         SideTypes::Several(None) => Ok(None),

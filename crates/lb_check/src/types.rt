@@ -384,31 +384,35 @@ pub enum SideTypes<'a> {
     Several(Option<TypeRow<'a>>),
 }
 
-/// The types of the results of a right side: a call or an iterator may have several.
+/// Notes the parts of a right side, and then the right side, and returns the types of its results: a
+/// call or an iterator may have several.
 #[tactic(auto, unfolding(crate::specs::TermTypes::results))]
 pub fn side_types<'a>(
     alloc: Global,
     env: &TypeEnv<'a, '_>,
     term: &Term,
+    parts: &mut PartTypes,
 ) -> Result<SideTypes<'a>, AllocError>
-    ensures { IfOk result (λ given. signatures.results_in given
-        ≡ mirror.results (context_in env.now) term.now) }
+    ensures { IfOk result (λ given. placed_mirror.IsSideWalked (context_in env.now) term.now
+        (placed_mirror.kept_in parts.old) (placed_mirror.kept_in parts.new)
+        (signatures.results_in given)) }
 {
     match term {
-        Term::Group(e) => side_types(alloc, env, e),
+        Term::Group(e) => side_types(alloc, env, e, parts),
         Term::AtMostOne(terms)
         | Term::Nor(terms)
         | Term::Call(_, terms)
         | Term::IterateNode(_, _, terms)
         | Term::IterateSymbol(_, _, _, terms) => {
-            let given = walk_row(alloc, env, terms, term, &mut PartTypes::none(alloc))?;
+            let given = walk_row(alloc, env, terms, term, parts)?;
+            parts.note_given(alloc, &given)?;
             Ok(SideTypes::Several(given))
         }
         Term::Array(terms) => {
-            let own = walk_list(alloc, env, terms, &mut PartTypes::none(alloc))?;
+            let own = walk_array(alloc, env, terms, term, parts)?;
             Ok(SideTypes::Single(own))
         }
-        _ => Ok(SideTypes::Single(type_of(alloc, env, term)?)),
+        _ => Ok(SideTypes::Single(walk(alloc, env, term, parts)?)),
     }
 }
 
@@ -430,7 +434,7 @@ pub fn results(
     env: &TypeEnv,
     term: &Term,
 ) -> Result<Option<Vec<DataType>>, AllocError> {
-    match side_types(alloc, env, term)? {
+    match side_types(alloc, env, term, &mut PartTypes::none(alloc))? {
         SideTypes::Single(Some(data_type)) => {
             let mut types = Vec::new(alloc);
             types.push(data_type)?;

@@ -133,23 +133,27 @@ pub fn infer(alloc: Global, env: &ClockEnv, term: &Term) -> Result<Inferred, All
     })
 }
 
-/// The clocks that a term accepts: on these it and its parts keep the rules of clocks.
-pub fn infer_clock(alloc: Global, env: &ClockEnv, term: &Term) -> Result<ClockSet, AllocError>
-    ensures { IfOk result (λ s. s ≡ mirror.infer_clock (context_in env.now) term.now) }
-{
-    let clock_set = walk(alloc, env, term, &mut Vec::new(alloc))?;
-    Ok(clock_set)
+/// The operands that are inferred of a row of terms, and the operands in them.
+#[derive(Drop)]
+pub struct InferredRow {
+    /// The operands, one for each term.
+    pub operands: Vec<Operand>,
+    /// The operands of each `current` and of each call in the terms, in text order.
+    pub within: Vec<Operand>,
 }
 
-/// The operands for some terms.
-pub fn operands_of(
-    alloc: Global,
-    env: &ClockEnv,
-    terms: &[Term],
-) -> Result<Vec<Operand>, AllocError>
-    ensures { IfOk result (λ operands.
-        operands.items ≡ mirror.operands_of (context_in env.now) terms.now) }
+/// Infers the operands of a row of terms, and the operands in them.
+#[tactic(auto, using(crate::proofs::clocking::WalkedClocks::known_turned))]
+pub fn infer_row(alloc: Global, env: &ClockEnv, terms: &[Term]) -> Result<InferredRow, AllocError>
+    ensures operands { IfOk result (λ found. found.operands.items
+        ≡ mirror.operands_of (context_in env.now) terms.now) }
+    ensures within { IfOk result (λ found. found.within.items
+        ≡ walked_mirror.known_among (context_in env.now) terms.now) }
 {
-    let operands = walk_all(alloc, env, terms, &mut Vec::new(alloc))?;
-    Ok(operands)
+    let mut within = Vec::new(alloc);
+    let operands = walk_all(alloc, env, terms, &mut within)?;
+    Ok(InferredRow {
+        operands,
+        within: turned(within),
+    })
 }

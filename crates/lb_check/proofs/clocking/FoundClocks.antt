@@ -87,7 +87,8 @@ module _ (P : Program) (r : Reached) (here : ResolvedNode) (sees : SeesClocks P 
       × (text.call_clocks (clock_in here (left_k lefts))
       (node_named P (site_at (texts_of here).calls c).callee) (row_of (texts_of here) row)
       ≡ map (clock_in here)
-      (side_clocks (context_of r here) lefts c (operands_in (context_of r here) row)))
+      (side_clocks (context_of r here) lefts (operands_in (context_of r here) row)
+      ((context_of r here).callee c)))
   call_found lefts wl n c {m = m} row wc w u singles kept results =
       let found = called_operands P r here sees c row wc w u singles in
       let site = site_at texts.calls c in
@@ -196,7 +197,7 @@ module _ (P : Program) (r : Reached) (here : ResolvedNode) (sees : SeesClocks P 
       let wa = and_second (is_call (counts_of here) c) _ w in
       let es = row_of texts all in
       let x = call_of_row P r here sees c all in
-      let ks = side_clocks ctx lefts c (operands_in ctx all) in
+      let ks = side_clocks ctx lefts (operands_in ctx all) (ctx.callee c) in
       let names = map (name_in here) lefts in
       let found = call_found lefts wl n c all wc wa u s k f in (
         (

@@ -433,6 +433,11 @@ flat_next f all i x lt is =
     ap (flat_map f) (drop_more all i x lt)
     ∙ ap (λ y. f y ++ flat_map f (drop (i + 1) all)) (sym is)
 
+-- arguments without clocks are not placed
+pub none_placed : (ctx : Context) (es : List Term) → placed_each ctx [] es ≡ []
+none_placed ctx [] = refl
+none_placed ctx (e ∷ es) = refl
+
 -- the terms of arguments from place `i` on are those of argument `i`, which may have no clock, and
 -- of the others
 pub each_next : (ctx : Context) (ks : List Clock) (es : List Term) (i : ℕ) (e : Term) →
@@ -443,10 +448,6 @@ pub each_next : (ctx : Context) (ks : List Clock) (es : List Term) (i : ℕ) (e 
 each_next ctx ks es i e lt is =
     by (placed_each ctx (drop (i + 1) ks) (drop (i + 1) es)) refl (slice_get_cases ks i).1
   where
-    short : (es : List Term) → placed_each ctx [] es ≡ []
-    short [] = refl
-    short (e ∷ es) = refl
-
     by : (later : List FoundTerm) → placed_each ctx (drop (i + 1) ks) (drop (i + 1) es) ≡ later →
         ((k : Clock) × (i < length ks) × (slice_get ks i ≡ Some k) × (get_or ks i k ≡ k))
         ⊎ ((length ks ≤ i) × (slice_get ks i ≡ None)) →
@@ -459,10 +460,10 @@ each_next ctx ks es i e lt is =
         ∙ ap (λ l. placed_terms ctx k e ++ l) h
         ∙ sym (ap (λ o. listed (λ k. placed_terms ctx k e) o ++ later) at)
     by later h (inr (le, none)) =
-        ap (λ l. placed_each ctx l (drop i es)) (drop_all i ks le) ∙ short (drop i es)
+        ap (λ l. placed_each ctx l (drop i es)) (drop_all i ks le) ∙ none_placed ctx (drop i es)
         ∙ sym (ap (λ o. listed (λ k. placed_terms ctx k e) o ++ later) none ∙ sym h
         ∙ ap (λ l. placed_each ctx l (drop (i + 1) es)) (drop_all (i + 1) ks (omega (arith, le)))
-        ∙ short (drop (i + 1) es))
+        ∙ none_placed ctx (drop (i + 1) es))
 
 -- ## Terms with known operands
 
@@ -647,7 +648,7 @@ module _ (ctx : Context) where
 
   pub side_placed : (lefts : List VariableId) (c : CallId) (es : Vec Term Global) →
       placed_side ctx lefts (Call c es)
-      ≡ placed_call ctx lefts c (operands_of ctx es.items) es.items
+      ≡ placed_call ctx lefts (operands_of ctx es.items) es.items (ctx.callee c)
   unfolding placed_side
   side_placed lefts c es =
       let t = Call c es in
@@ -656,5 +657,5 @@ module _ (ctx : Context) where
       let os = same_operands ctx t es same in
       ap₂ (λ f l. called (left_clock ctx lefts) f ∷ l)
       (ap (λ l. side_call ctx lefts l (ctx.callee c)) os)
-      (argument_items (side_clocks ctx lefts c (operands_in ctx row)) _ row
-      ∙ ap₂ (λ l es. placed_each ctx (side_clocks ctx lefts c l) es) os same)
+      (argument_items (side_clocks ctx lefts (operands_in ctx row) (ctx.callee c)) _ row
+      ∙ ap₂ (λ l es. placed_each ctx (side_clocks ctx lefts l (ctx.callee c)) es) os same)

@@ -14,12 +14,17 @@ use Words.{Specialization, Table, instance_of, Instance, Root, Child, Site, call
 use Words.{node_named, node_sites, static_value, id_at, tree_at, callee_in, texts_of}
 use Words.{is_statement_unhidden, is_clocked, IsJudged, SeesClocks, is_statement_single}
 use Words.{is_part_clocked, is_typed, nat_tests, same_Some, bind_some, counts_of, is_call}
+use Words.{find, not}
 use Rattle.{std.proofs.lemmas.Bool.and_left, lb_check.specs.BrokenParts.awaitable}
+use Rattle.std.proofs.lemmas.Option.{slice_get_past}
 use Rattle.lb_check.specs.{BrokenParts.is_declared_clock, FoundParts.IsPartIllClocked}
+use Rattle.lb_check.specs.FoundParts.{IsClockedPart, broken_part}
 use Rattle.lb_check.specs.NodeClocks.{is_node_clocked, are_clocked_at}
 use Rattle.lb_check.proofs.clocking.ClockDepths.{first_names}
 use Rattle.lb_check.proofs.definitions.NodePlaces.{callee_found, distinct_variables, node_resolved}
 use Rattle.lb_check.proofs.definitions.NodePlaces.{site_found}
+use Rattle.lb_check.proofs.definitions.BrokenRules.{find_mapped, not_all}
+use Rattle.lb_check.specs.declared.part.IllFormed.{IllFormed}
 use Rattle.lb_check.proofs.lists.ListPairs.{all_pass, fails_there, not_all_pass, fails_at}
 use Rattle.lb_check.proofs.lists.ListPairs.{found_item, get_dropped, get_taken}
 use Rattle.lb_check.proofs.typing.FittedTypes.{node_at}
@@ -73,14 +78,14 @@ module _ (r : Reached) (id : NodeId) (n : ResolvedNode)
       let same : n ≡ m = cc in
       subst (λ (m : ResolvedNode). IsPartIllClocked r m p) same e
 
-  pub declared_found : (i : ℕ) → IsDeclaredClock (node_of n) (Some i) →
+  declared_found : (i : ℕ) → IsDeclaredClock (node_of n) (Some i) →
       IsIllClocked r id (part.Variable (record { 0 = i }))
   declared_found i e = (
     both ∙ ap (λ b. b && is_body_clocked r n) e.0,
     here (part.Variable (record { 0 = i })) e.1,
   )
 
-  pub statement_found : (j : ℕ) → are_declared_clocks (node_of n) ≡ true →
+  statement_found : (j : ℕ) → are_declared_clocks (node_of n) ≡ true →
       first_broken (is_resolved_statement_clocked (context_of r n)) n.body.items ≡ Some j
       → IsIllClocked r id (part.Statement j)
   statement_found j declared e = (
@@ -90,11 +95,27 @@ module _ (r : Reached) (id : NodeId) (n : ResolvedNode)
     here (part.Statement j) (declared, fails_there kept n.body.items j e),
   )
 
-  pub all_clocked : are_declared_clocks (node_of n) ≡ true →
+  all_clocked : are_declared_clocks (node_of n) ≡ true →
       first_broken (is_resolved_statement_clocked (context_of r n)) n.body.items ≡ None
       → is_clocked_at r id ≡ true
   all_clocked declared e = both ∙ ap (λ b. b && is_body_clocked r n) declared
       ∙ all_pass kept n.body.items e
+
+  pub part_found : (declared statement : Option ℕ) → IsDeclaredClock (node_of n) declared →
+      statement ≡ first_broken (is_resolved_statement_clocked (context_of r n)) n.body.items →
+      IsClockedPart r id (broken_part declared statement)
+  part_found (Some i) statement d e = declared_found i d
+  part_found None (Some j) d e = statement_found j d (sym e)
+  part_found None None d e = all_clocked d (sym e)
+
+-- a node that is not reached breaks the rules of clocks, in each part
+pub none_clocked : (r : Reached) (id : NodeId) (p : Part) → length r.nodes.items ≤ id.0 →
+    IsIllClocked r id p
+none_clocked r id p le =
+    let past = slice_get_past r.nodes.items id.0 le in (
+      ap (holds (is_node_clocked r)) past,
+      λ n at. absurd (let no = sym past ∙ at in cc),
+    )
 
 -- A declared clock that the code finds to break the rules breaks them.
 
@@ -394,7 +415,7 @@ module _ (P : Program) (r : Reached) (t : Table) (j : IsJudged P r t) where
 
     -- each instance keeps the rules of clocks exactly where the code finds it of the node of each
     -- specialization
-    pub instances_clocked : are_clocked_at r t.specializations.items ≡ list_all
+    instances_clocked : are_clocked_at r t.specializations.items ≡ list_all
         (λ here. is_clocked P here.node) (instances P)
     instances_clocked =
         both_ways _ _ (λ e. sym (all_are (from_code e)) ∙ e) (λ e. all_are (from_trees e) ∙ e)
@@ -471,3 +492,14 @@ module _ (P : Program) (r : Reached) (t : Table) (j : IsJudged P r t) where
         let all = sees i (λ k m lt at. is_declared m (earlier k m lt at)) s is n.0 n.1 own.0 in
         subst (λ (k : Node). is_part_clocked P k (part.Statement q) ≡ false) same
         (statement_broken P r n.0 all n.2.unhidden single q own.1)
+
+    -- the code finds a node exactly where an instance breaks the rules of clocks
+    pub found_is : (found : Option IllFormed) →
+        option_map (λ f. f.node) found
+        ≡ find (λ id. not (is_clocked_at r id)) (map (λ s. s.node) t.specializations.items) →
+        is_some found ≡ not (list_all (λ here. is_clocked P here.node) (instances P))
+    found_is found e =
+        not_all (λ s. s.node) (λ s. is_clocked_at r s.node) t.specializations.items (λ f. f.node)
+        found (e ∙ find_mapped (λ s. s.node) (λ id. not (is_clocked_at r id))
+        t.specializations.items)
+        ∙ ap not instances_clocked

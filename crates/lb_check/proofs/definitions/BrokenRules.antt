@@ -7,14 +7,18 @@ use Words.{cond, List, [], ◌∷◌, map, ap, ◌∙◌, arith, IfSome, find, o
 use Words.{slice_get-map, not-false, not-true, holds, In, listed, Name, Node, specialized_at}
 use Words.{Instance, Path, tree_at, NodeId, Specialization, Part, is_part_typed, IfOk, Result, ◌≡◌}
 use Words.{Bool, true, false, Option, Some, None, refl, sym, subst}
+use Words.{Vec, Global, NodeTypes, is_specialization_typed}
+use Rattle.std.specs.Prelude.{IfErr, is_ok}
 use Rattle.{std.{specs.Prelude.Ok, proofs.Common.Err}, lb_syntax.specs.Refusals.{Refusal, E4, E7}}
 use Rattle.{lb_syntax.specs.Refusals.{E8, E11}, lb_static.specs.Elaborated.IsElaborated}
 use Rattle.lb_static.specs.{Instantiation.has_no_parameters, Names.is_well_founded}
-use Rattle.lb_check.specs.{BrokenRules.{IsBroken, IsBrokenIn}, Correct.{IsAnswer, IsRefusal}}
-use Rattle.lb_check.specs.{FoundParts.IsIllTypedAt, declared.error.CheckError.CheckError}
-use Rattle.lb_check.specs.declared.{part.IllFormed.IllFormed, type_rules.IllTyped.IllTyped}
+use Rattle.lb_check.specs.BrokenRules.{IsBroken, IsBrokenIn}
+use Rattle.lb_check.specs.{FoundParts.{AreJudgedTypes, IsIllTypedAt}, PlacedTypes.AreFound}
+use Rattle.lb_check.specs.declared.{part.IllFormed.IllFormed, judged_types.IllTyped.IllTyped}
 use Rattle.lb_check.proofs.typing.Specializations.{has_instance}
-use Rattle.lb_check.proofs.typing.TypedSpecializations.{specialization_part, specialization_typed}
+use Rattle.lb_check.proofs.lists.ListPairs.{all_pass, not_all_pass}
+use Rattle.lb_check.proofs.typing.TypedSpecializations.{instances_typed, specialization_part}
+use Rattle.lb_check.proofs.typing.TypedSpecializations.{specialization_typed}
 
 -- The first of the rules of types, clocks and definitions that an elaborated program breaks.
 
@@ -63,24 +67,13 @@ kept_by None true e none = refl
 kept_by None false e none = absurd cc
 kept_by (Some x) b e none = absurd (none x refl)
 
-pub refused : (P : Program) (o : Option CheckError) (e : CheckError) → IsRefusal P o → o ≡ Some e →
-    IsAnswer P (Err e)
-refused P o e told is = subst (IsRefusal P) is told
-
-pub accepted : (P : Program) (o : Option CheckError) → IsRefusal P o → o ≡ None →
-    check_refusal P ≡ None
-accepted P o told is = subst (IsRefusal P) is told
-
--- a refusal that is right for each judged program is right for an elaborated one
-pub found :
-    (e : Elaboration) (r : Reached) (t : Table) (o : Option CheckError) → IsLawful e →
-    r ≡ e.reached → t ≡ e.table → ((P : Program) → IsJudged P r t → IsRefusal P o) →
-    IsRefusal (elaborated_program e) o
-found e r t o is same_nodes same_table told =
+-- the program of a lawful elaboration is judged
+pub judged_here : (e : Elaboration) (r : Reached) (t : Table) → IsLawful e → r ≡ e.reached →
+    t ≡ e.table → IsJudged (elaborated_program e) r t
+judged_here e r t is same_nodes same_table =
     let P = elaborated_program e in
-    told P
-    (subst (λ r. IsJudged P r t) (sym same_nodes)
-    (subst (λ t. IsJudged P e.reached t) (sym same_table) (judged P e is)))
+    subst (λ r. IsJudged P r t) (sym same_nodes)
+    (subst (λ t. IsJudged P e.reached t) (sym same_table) (judged P e is))
 
 -- ## The first of three rules
 
@@ -178,6 +171,19 @@ pub both_found : {A E : Type 0} (r : Result A E) (B C D : A → Type 0) → IfOk
 both_found (Ok a) B C D g h f = f a g h
 both_found (Err e) B C D g h f = h
 
+-- the types that are found of each specialization
+pub types_found : (r : Reached) (t : Table) (found : Result (Option (Vec NodeTypes Global)) IllTyped)
+    → AreJudgedTypes r t found → IfOk found (AreFound r t)
+types_found r t (Ok types) told = told.1
+types_found r t (Err f) told = tt
+
+pub told_ok : {A E : Type 0} (r : Result A E) (x : A) (Q : A → Type 0) → IfOk r Q → r ≡ Ok x → Q x
+told_ok r x Q q is = subst (λ r. IfOk r Q) is q
+
+pub told_err : {A E : Type 0} (r : Result A E) (x : E) (Q : E → Type 0) → IfErr r Q → r ≡ Err x →
+    Q x
+told_err r x Q q is = subst (λ r. IfErr r Q) is q
+
 pub told : {A : Type 0} (o : Option A) (x : A) (Q : A → Type 0) → IfSome o Q → o ≡ Some x → Q x
 told None id Q q e = absurd cc
 told (Some k) id Q q e = let same : k ≡ id = cc in subst Q same q
@@ -216,11 +222,22 @@ module _ (P : Program) (r : Reached) where
           specialization_part P r t j place s at h.0 h.1 h.3 p broken,
         )
 
-    pub types_named : (found : Option IllTyped) →
-        IfSome found (λ f. IsIllTypedAt r t f.place f.node f.part)
-        → IfSome found (λ f. IsBroken (is_typed P) (is_part_typed P) P r f.node f.part)
-    types_named None told = tt
-    types_named (Some f) told = types_broken f.place f.node f.part told
+    abbrev Found : Type 0
+    Found = Result (Option (Vec NodeTypes Global)) IllTyped
+
+    pub types_named : (found : Found) → AreJudgedTypes r t found →
+        IfErr found (λ f. IsBroken (is_typed P) (is_part_typed P) P r f.node f.part)
+    types_named (Ok types) told = tt
+    types_named (Err f) told = types_broken f.place f.node f.part told.1
+
+    -- types are found exactly where each instance keeps the rules
+    pub types_judged : (found : Found) → AreJudgedTypes r t found →
+        is_ok found ≡ list_all (is_typed P) (instances P)
+    types_judged (Ok types) told =
+        sym (all_pass (is_specialization_typed r t) ss (sym told.0)) ∙ instances_typed P r t j
+    types_judged (Err f) told =
+        sym (not_all_pass (is_specialization_typed r t) ss f.place (sym told.0))
+        ∙ instances_typed P r t j
 
     -- clocks and definitions: whether the node of a specialization keeps a rule
     abbrev in_tree : (Node → Bool) → Specialization → Bool

@@ -5,6 +5,7 @@ use Rattle.lb_check.proofs.Words.{and_from, and_first, and_second, ◌++◌, sub
 use Rattle.lb_check.proofs.Words.{length, get_or, reverse, append_assoc, drop_all, drop_more}
 use Rattle.lb_check.proofs.Words.{reverse-append, false, cond, Option, None, is_some, not}
 use Rattle.lb_check.proofs.Words.{option_map, and-true, listed, at_place, first_broken, list_all}
+use Rattle.lb_check.proofs.Words.{or_else}
 use Rattle.std.specs.List.{position_from}
 
 -- The items of two lists, place by place.
@@ -164,6 +165,33 @@ module _ {A : Type 0} (f : A → Bool) where
       ∙ ap (λ c. cond (not c) (Some i) (broken_from (i + 1) (drop (i + 1) all)))
       (sym (ap f is) ∙ e)
 
+  -- one more item is judged, after others of which `broken` is the first that fails
+  pub broken_next : (whole broken next : Option ℕ) (all : List A) (i : ℕ) (x : A) →
+      whole ≡ or_else broken (broken_from i (drop i all)) → i < length all → x ≡ get_or all i x →
+      next ≡ or_else broken (cond (f x) None (Some i)) →
+      whole ≡ or_else next (broken_from (i + 1) (drop (i + 1) all))
+  broken_next whole broken next all i x known lt is e =
+      let rest = broken_from (i + 1) (drop (i + 1) all) in
+      known ∙ ap (λ l. or_else broken (broken_from i l)) (drop_more all i x lt)
+      ∙ ap (λ y. or_else broken (cond (not (f y)) (Some i) rest)) (sym is)
+      ∙ by broken (f x) rest ∙ ap (λ o. or_else o rest) (sym e)
+    where
+      by : (o : Option ℕ) (b : Bool) (rest : Option ℕ) →
+          or_else o (cond (not b) (Some i) rest) ≡ or_else (or_else o (cond b None (Some i))) rest
+      by (Some k) b rest = refl
+      by None true rest = refl
+      by None false rest = refl
+
+  -- where all items are judged, `broken` is the first of all that fails
+  pub broken_end : (whole broken : Option ℕ) (all : List A) (i : ℕ) →
+      whole ≡ or_else broken (broken_from i (drop i all)) → length all ≤ i → broken ≡ whole
+  broken_end whole broken all i known le =
+      by broken ∙ sym (known ∙ ap (λ l. or_else broken (broken_from i l)) (drop_all i all le))
+    where
+      by : (o : Option ℕ) → o ≡ or_else o None
+      by (Some k) = refl
+      by None = refl
+
   -- ## The item that is found
 
   all_from : (k : ℕ) (xs : List A) → broken_from k xs ≡ None → list_all f xs ≡ true
@@ -223,12 +251,6 @@ module _ {A : Type 0} (f : A → Bool) where
   pub item_there : (xs : List A) (i : ℕ) → at_place f xs i ≡ false →
       (x : A) × (slice_get xs i ≡ Some x) × (f x ≡ false)
   item_there xs i e = grind (arith, and-true)
-
-  -- an item that fails is found exactly where not all pass
-  pub is_found : {B : Type 0} (o : Option B) (g : B → ℕ) (xs : List A) →
-      option_map g o ≡ first_broken f xs → is_some o ≡ not (list_all f xs)
-  is_found None g xs e = sym (ap not (all_pass xs (sym e)))
-  is_found (Some b) g xs e = sym (ap not (not_all_pass xs (g b) (sym e)))
 
   -- the answer is `true` where all items pass
   pub is_none_found : (xs : List A) (o : Option ℕ) (b : Bool) → o ≡ first_broken f xs →

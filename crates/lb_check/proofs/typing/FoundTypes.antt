@@ -10,11 +10,11 @@ use Words.{same_Some, mapped_from, elaborated_program, IsLawful, IsTable, instan
 use Words.{specialized_at, Path, parts, right_side, IsReached, source_names, IsResolved, counts_of}
 use Words.{node_of, texts_of, Elaboration, Reached, ResolvedNode, Specialization, Table, IsJudged}
 use Words.{false, is_small, reverse, sum_by-cons, sum_by_more, found_of, node_types}
-use Words.{specialization_types}
+use Words.{specialization_types, ◌≢◌, Kept, map-append}
 use Rattle.std.proofs.Math.Seq.{drop-append_seam, take-append_seam}
-use Rattle.{std.proofs.lemmas.List.Sums.sum_by-take-le, lb_static.proofs.TypeViews.product_reverse}
+use Rattle.{std.proofs.lemmas.List.{take_all, take_more}, lb_static.proofs.TypeViews.product_reverse}
 use Rattle.lb_check.specs.{FoundTerms.HasFoundTypes, PlacedTypes.{nothing_found, type_among}}
-use Rattle.lb_check.specs.{PlacedTypes.{sizes_of, with_terms, AreFound}, Streams.data_type}
+use Rattle.lb_check.specs.{PlacedTypes.{sizes_of, with_terms, AreFound, AreKept}, Streams.data_type}
 use Rattle.lb_check.{specs.TermTypes.context_of, proofs.definitions.BrokenRules.judged}
 use Rattle.lb_check.proofs.{lists.ListPairs.get_mapped, typing.FittedTypes.node_at}
 use Rattle.lb_check.proofs.typing.{FittedTypes.specialized_instance, MirroredTypes.statements_typed}
@@ -128,35 +128,54 @@ parts_kept f os i o is e =
     ap (λ l. min (product (take (length l - 1) l)) 65537) (sizes_kept f os i o is e)
     ∙ ap (λ k. min k 65537) (inner_product ns)
 
--- ## The elements that are left of 65,537
+-- ## The specializations whose types are found, one after another
 
-module _ {A : Type 0} (f : A → ℕ) (xs : List A) (i : ℕ) (x : A) (left size rest : ℕ)
-    (lt : i < length xs) (is : x ≡ get_or xs i x)
-    (known : left ≡ 65537 - sum_by f (take i xs)) (own : size ≡ min (f x) 65537)
-    (next : rest ≡ left - size) where
-  -- the elements of one more item are taken from those that are left
-  pub less_left : rest ≡ 65537 - sum_by f (take (i + 1) xs)
-  less_left =
-      let more = sum_by_more f xs i x lt in
-      let item = ap f is in
-      omega (arith, known, own, next, more, item)
+-- the types of the first `i` specializations are found, as long as they are not too many
+abbrev pub AreFoundTo : Reached → Table → List Specialization → ℕ → Kept → List NodeTypes → Type 0
+AreFoundTo r t ss i now all =
+    (now.found ≡ [])
+    × (now.left
+    ≡ 65537 - sum_by (λ (s : Specialization). size_of (found_of r t s)) (take i ss))
+    × (now.left ≢ 0 → map found_in all ≡ map (found_of r t) (take i ss))
 
-  -- there are more than 65,536 elements, where none is left
-  pub none_left : rest ≡ 0 → 65536 < sum_by f xs
-  none_left e =
-      let less = less_left in
-      let part = sum_by-take-le f xs (i + 1) in
-      omega (arith, e, less, part)
+module _ (r : Reached) (t : Table) (ss : List Specialization) where
+  abbrev size : Specialization → ℕ
+  size s = size_of (found_of r t s)
 
--- there are more than 65,536 elements, where an item alone has as many as are left
-pub none_left_by : {A : Type 0} (f : A → ℕ) (xs : List A) (i : ℕ) (x : A) (left : ℕ) →
-    i < length xs → x ≡ get_or xs i x → left ≡ 65537 - sum_by f (take i xs) → left ≤ f x →
-    65536 < sum_by f xs
-none_left_by f xs i x left lt is known many =
-    let more = sum_by_more f xs i x lt in
-    let item = ap f is in
-    let part = sum_by-take-le f xs (i + 1) in
-    omega (arith, known, many, more, item, part)
+  -- those of one more are found
+  pub found_more :
+      (i : ℕ) (s : Specialization) → i < length ss → s ≡ get_or ss i s →
+      (before after : Kept) (all more : List NodeTypes) (f : NodeTypes) →
+      AreFoundTo r t ss i before all →
+      AreKept (specialization_types r t s) before after nothing_found (found_in f) →
+      more ≡ all ++ (f ∷ []) → AreFoundTo r t ss (i + 1) after more
+  found_more i s lt is before after all more f known one e =
+      let own = size_kept (specialization_types r t s) in
+      let sum = sum_by_more size ss i s lt in
+      let item = ap size is in (
+        one.0,
+        omega (arith, known.1, one.1, own, sum, item),
+        λ some.
+            ap (map found_in) e ∙ map-append found_in all (f ∷ [])
+            ∙ ap (λ l. l ++ (found_in f ∷ [])) (known.2 (λ e. some (omega (arith, e, one.1))))
+            ∙ ap (λ g. map (found_of r t) (take i ss) ++ (g ∷ [])) (one.2 some)
+            ∙ ap (λ s. map (found_of r t) (take i ss) ++ (found_of r t s ∷ [])) is
+            ∙ sym (map-append (found_of r t) (take i ss) (get_or ss i s ∷ []))
+            ∙ ap (map (found_of r t)) (sym (take_more ss i s lt)),
+      )
+
+  module _ (i : ℕ) (now : Kept) (le : length ss ≤ i) (same : ss ≡ t.specializations.items) where
+    -- those of all are too many
+    pub found_none : (all : List NodeTypes) → AreFoundTo r t ss i now all → now.left ≡ 0 →
+        AreFound r t None
+    found_none all known over =
+        let every = ap (sum_by size) (take_all i ss le ∙ same) in
+        omega (arith, known.1, over, every)
+
+    -- those of all are found
+    pub found_all : (all : Vec NodeTypes Global) → AreFoundTo r t ss i now all.items →
+        now.left ≢ 0 → AreFound r t (Some all)
+    found_all all known some = known.2 some ∙ ap (map (found_of r t)) (take_all i ss le ∙ same)
 
 -- ## The expressions of an instance
 

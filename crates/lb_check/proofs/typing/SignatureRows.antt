@@ -334,18 +334,6 @@ part_moved f g xs ys p split e =
     (reverse-reverse p.data_type.sizes.items)
     ∙ ap (λ h. with_parts h (reverse (map part_in ys))) (sym e)
 
--- ## The elements of some terms, as far as there are this many
-
-module _ (many left rest whole own later : ℕ) (under : left ≤ many)
-    (known : whole ≡ (many - left) + (own + later)) (next : rest ≡ left - own) where
-  -- fewer than `many` elements are counted
-  pub counted_more : rest ≢ 0 → whole ≡ (many - rest) + later
-  counted_more some = omega (arith, under, known, next, some)
-
-  -- `many` elements or more are counted
-  pub counted_enough : rest ≡ 0 → many ≤ whole
-  counted_enough none = omega (arith, under, known, next, none)
-
 -- Tests of whether a declared type, or an array of it, has given sizes: each size is compared with
 -- the declared value, and no type is made.
 

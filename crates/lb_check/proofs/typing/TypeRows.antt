@@ -129,8 +129,7 @@ pair_type ctx t a b o p (inr (inl is)) e f = rw (is, e, f) refl
 pair_type ctx t a b o p (inr (inr (inl is))) e f = rw (is, e, f) refl
 pair_type ctx t a b o p (inr (inr (inr is))) e f = rw (is, e, f) refl
 
--- The types that are kept of the parts of a term, from those of its operands, and of rows of terms
--- from a place on.
+-- The types that are kept of the parts of a term, from those of its operands.
 
 -- ## Kept types grow
 
@@ -139,21 +138,6 @@ pub more_terms : (f : FoundNode) (xs ys : List FoundTypes) →
     with_terms f (xs ++ ys) ≡ with_terms (with_terms f xs) ys
 more_terms f [] ys = refl
 more_terms f (x ∷ xs) ys = more_terms (with_term f x) xs ys
-
-module _ {A : Type 0} (f : A → List FoundTypes) (whole now : FoundNode) (all : List A) (i : ℕ)
-    (known : whole ≡ with_terms now (flat_map f (drop i all))) where
-  -- one more item is kept
-  pub flat_more : (more : FoundNode) (x : A) → i < length all → x ≡ get_or all i x →
-      more ≡ with_terms now (f x) → whole ≡ with_terms more (flat_map f (drop (i + 1) all))
-  flat_more more x lt is e =
-      let rest = flat_map f (drop (i + 1) all) in
-      known ∙ ap (λ l. with_terms now (flat_map f l)) (drop_more all i x lt)
-      ∙ ap (λ y. with_terms now (f y ++ rest)) (sym is)
-      ∙ more_terms now (f x) rest ∙ ap (λ g. with_terms g rest) (sym e)
-
-  -- no item is left
-  pub flat_end : length all ≤ i → whole ≡ now
-  flat_end le = known ∙ ap (λ l. with_terms now (flat_map f l)) (drop_all i all le)
 
 -- ## Terms by their forms
 

@@ -7,13 +7,16 @@ use Words.{FoundTypes, IsWalked, Kept, kept, noted, placed_types, placed_all_typ
 use Words.{Signature, evaluated, given_of, list_of, one_type, results, type_of, when_both}
 use Words.{when_truth, common_type, only, singly, zero, suc, Bool, true, false, take, ◌&&◌, is_some}
 use Words.{flat_map-append, drop-map, length-append, where_true, and_second, Group', are_met}
-use Words.{are_one, arrays, common, has_arity, outcome, array_of, Result}
+use Words.{are_one, arrays, common, has_arity, outcome, array_of, Result, flat_map, append-nil}
+use Words.{FoundNode, part_size, reverse, sum_by, with_parts}
+use Rattle.std.proofs.lemmas.List.{Sums.sum_by-append, take_all, take_more}
 use Rattle.{std.proofs.lemmas.List.take-append-drop, lb_static.specs.declared.resolved.Term.Array}
 use Rattle.lb_static.specs.declared.resolved.Term.{Group, If}
-use Rattle.lb_check.specs.{PlacedTypes.IsDecided, TermTypes.{Context, leaf_type}}
+use Rattle.lb_check.specs.{PlacedTypes.{AreKept, AreMoved, IsDecided, IsSideWalked, with_terms}, TermTypes.{Context, leaf_type}}
 use Rattle.lb_check.proofs.definitions.BrokenRules.{both_found, if_found}
 use Rattle.lb_check.proofs.lists.ListPairs.{all_last, more_last, none_last}
 use Rattle.lb_check.proofs.typing.SignatureRows.{kept_both, list_is, kept_none, kept_over, fits_end}
+use Rattle.lb_check.proofs.typing.{SignatureRows.{kept_left, moved_terms}, TypeRows.more_terms}
 use Rattle.lb_check.proofs.typing.{TermSignatures.results_given, TypeRows.list_results}
 use Rattle.lb_check.proofs.typing.TypeRows.{list_type_is, type_is_only, single_none, single_type}
 use Rattle.lb_check.proofs.typing.TypeRows.{HasOneResult, group_placed, row_placed}
@@ -96,6 +99,22 @@ module _ (ctx : Context) where
         (λ o s e. (s ∙ is, noted_after t xs (singly own) form.1 (ap singly is ∙ sym form.0) m e))
 
     -- noting a term with a row of operands, a list apart, completes the walk over it
+    pub given_noted :
+        (called : CallId → Signature) (t : Term) (es : Vec Term Global)
+        (given : Option (List (Option DataType))) →
+        ((c : CallId) → ctx.call c ≡ evaluated (called c)) → IsGiven t es →
+        given ≡ given_of called ctx t (map (type_of ctx) es.items) →
+        mid ≡ kept before (placed_all_types ctx es.items) →
+        after ≡ noted mid (given >>= all_some) →
+        IsSideWalked ctx t before after (given >>= all_some)
+    given_noted called t es given law is g m a =
+        let same : (given >>= all_some) ≡ results ctx t =
+        ap (λ o. o >>= all_some) g ∙ sym (results_given called ctx law t es is) in (
+          same,
+          noted_after t (placed_all_types ctx es.items) (given >>= all_some)
+              (row_placed ctx t es (inr is)) same m a,
+        )
+
     pub returns_given :
         {E : Type 0} (called : CallId → Signature) (r : Result (Option stored.DataType) E)
         (t : Term) (es : Vec Term Global) (given : Option (List (Option DataType))) →
@@ -107,14 +126,11 @@ module _ (ctx : Context) where
         IfOk r (λ o. IsWalked ctx t before after (option_map view_type o))
     returns_given called r t es given law is g m one a =
         let all = given >>= all_some in
-        let same : all ≡ results ctx t =
-        ap (λ o. o >>= all_some) g ∙ sym (results_given called ctx law t es is) in
         both_found r (λ o. option_map view_type o ≡ (all >>= only)) (λ o. after ≡ noted mid all)
         (λ o. IsWalked ctx t before after (option_map view_type o)) one a
-        (λ o s e. (
-          s ∙ ap (λ r. r >>= only) same ∙ sym (type_is_only ctx t),
-          noted_after t (placed_all_types ctx es.items) all (row_placed ctx t es (inr is)) same m e,
-        ))
+        (λ o s e.
+        let w = given_noted called t es given law is g m e in
+        (s ∙ ap (λ r. r >>= only) w.0 ∙ sym (type_is_only ctx t), w.1))
 
     pub returns_group :
         {E : Type 0} (r : Result (Option stored.DataType) E) (t d : Term) (e : Box Term Global) →
@@ -126,6 +142,22 @@ module _ (ctx : Context) where
         (λ o. IsWalked ctx t before after (option_map view_type o)) w
         (λ o v. walked_group t e (option_map view_type o) is
         (subst (λ x. IsWalked ctx x before after (option_map view_type o)) same v))
+
+    -- ## Right sides
+
+    group_results : (t : Term) (e : Box Term Global) → t ≡ Group e →
+        results ctx t ≡ results ctx e.value
+    unfolding results
+    group_results t e is = rw is refl
+
+    pub side_group : (t d : Term) (e : Box Term Global) → t ≡ Group e → d ≡ e.value →
+        (given : FoundTypes) → IsSideWalked ctx d before after given →
+        IsSideWalked ctx t before after given
+    side_group t d e is same given w = (
+      w.0 ∙ ap (results ctx) same ∙ sym (group_results t e is),
+      w.1 ∙ ap (λ x. kept before (placed_types ctx x)) same
+          ∙ ap (kept before) (sym (group_placed ctx t e is)),
+    )
 
   -- ## Rows
 
@@ -277,3 +309,62 @@ module _ (ctx : Context) where
             sym (ap (λ b. where_true b s.gives) none),
             kept_last before now d.0 lt w d.2,
           )
+
+-- ## The terms that are kept, of one statement after another
+
+-- no term is kept yet
+pub keeps_none : (k : Kept) (f : FoundNode) → k.found ≡ [] → AreKept [] k k f f
+keeps_none k f none = (none, omega arith, λ some. refl)
+
+-- terms are noted and moved
+pub keeps_moved :
+    (os : List FoundTypes) (before after moved : Kept) (f g : FoundNode) → before.found ≡ [] →
+    after ≡ kept before os → AreMoved after moved f g → AreKept os before moved f g
+keeps_moved os before after moved f g none walked m =
+    let left = ap (λ (k : Kept). k.left) m.0 ∙ ap (λ (k : Kept). k.left) walked in (
+      ap (λ (k : Kept). k.found) m.0,
+      left ∙ kept_left before os,
+      λ some.
+          m.1 ∙ ap (λ (k : Kept). with_parts f (reverse k.found)) walked
+          ∙ moved_terms f before os none (λ e. some (left ∙ e)),
+    )
+
+-- nothing is kept any more
+pub keeps_nothing : (os : List FoundTypes) (k : Kept) (f : FoundNode) → k.found ≡ [] →
+    k.left ≡ 0 → AreKept os k k f f
+keeps_nothing os k f none over = (none, omega (arith, over), λ some. absurd (some over))
+
+-- terms are kept, and then those behind them
+pub keeps_more :
+    (xs ys : List FoundTypes) (before mid after : Kept) (f g h : FoundNode) →
+    AreKept xs before mid f g → AreKept ys mid after g h → AreKept (xs ++ ys) before after f h
+keeps_more xs ys before mid after f g h a b =
+    let sum = sum_by-append part_size xs ys in (
+      b.0,
+      omega (arith, a.1, b.1, sum),
+      λ some.
+          b.2 some ∙ ap (λ n. with_terms n ys) (a.2 (λ e. some (omega (arith, e, b.1))))
+          ∙ sym (more_terms f xs ys),
+    )
+
+module _ {A : Type 0} (f : A → List FoundTypes) (all : List A) (i : ℕ) where
+  -- the terms of one more item are kept
+  pub keeps_next :
+      (x : A) → i < length all → x ≡ get_or all i x → (before mid after : Kept)
+      (g h k : FoundNode) → AreKept (flat_map f (take i all)) before mid g h →
+      AreKept (f x) mid after h k → AreKept (flat_map f (take (i + 1) all)) before after g k
+  keeps_next x lt is before mid after g h k a b =
+      let first = flat_map f (take i all) in
+      let more : flat_map f (take (i + 1) all) ≡ first ++ f x =
+      ap (flat_map f) (take_more all i x lt)
+      ∙ flat_map-append f (take i all) (get_or all i x ∷ [])
+      ∙ ap (λ y. first ++ (f y ++ [])) (sym is) ∙ ap (λ l. first ++ l) (append-nil (f x)) in
+      subst (λ os. AreKept os before after g k) (sym more)
+      (keeps_more first (f x) before mid after g h k a b)
+
+  -- the terms of all items are kept
+  pub keeps_all : length all ≤ i → (before after : Kept) (g h : FoundNode) →
+      AreKept (flat_map f (take i all)) before after g h →
+      AreKept (flat_map f all) before after g h
+  keeps_all le before after g h =
+      subst (λ l. AreKept (flat_map f l) before after g h) (take_all i all le)

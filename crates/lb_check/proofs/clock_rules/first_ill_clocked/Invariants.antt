@@ -1,9 +1,12 @@
-use Rattle.lb_check.proofs.Words.{◌≡◌, true, drop, find, not, is_clocked_at, Program, keeps_names}
-use Rattle.lb_check.proofs.Words.{IsReached, NodeId}
+use Rattle.lb_check.proofs.Words.{◌≡◌, drop, find, map, not, is_clocked_at, NodeId, Reached}
+use Rattle.lb_check.proofs.Words.{Specialization}
+use Rattle.lb_check.specs.FoundParts.{AreClockedParts}
 use Rattle.lb_check.proofs.clock_rules.first_ill_clocked.Given as goal
 
-abbrev pub invariant-loop-id : goal.invariant-loop-id
-invariant-loop-id l =
-    let broken = λ (id : NodeId). not (is_clocked_at l.reached id) in
-    (P : Program) → keeps_names P ≡ true → IsReached P l.reached
-    → find broken l.ids ≡ find broken (drop l.id-index l.ids)
+abbrev pub invariant-loop-specialization : goal.invariant-loop-specialization
+invariant-loop-specialization l =
+    (r : Reached) → AreClockedParts r l.parts →
+    let broken = λ (id : NodeId). not (is_clocked_at r id) in
+    let node = λ (s : Specialization). s.node in
+    find broken (map node l.table.specializations.items)
+    ≡ find broken (map node (drop l.specialization-index l.specialization-items))
