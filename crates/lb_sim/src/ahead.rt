@@ -27,6 +27,7 @@ use crate::four_lanes::put_four_ahead;
 use crate::integer_loads::{are_live, load_numbers};
 use crate::loads::Instant;
 use lb_lanes::{LaneWord, Plane};
+use lb_traces::NumberRow;
 
 /// An instant of the members of a batch, and the instant before which all live lanes have each
 /// instant that follows.
@@ -72,7 +73,7 @@ pub(crate) fn nothing() -> Loaded
 }
 
 // Puts the integers of a row at `places` into one lane of the words of instant `d`.
-fn put_row(row: &[i32], lane: u32, d: usize, places: &[usize], room: &mut [LaneWord])
+fn put_row(row: &NumberRow<'_>, lane: u32, d: usize, places: &[usize], room: &mut [LaneWord])
     requires lane { lane < 64 }
     requires instant { d < 64 }
     requires room { 65 * length places.now ≤ length room.old }
@@ -86,20 +87,19 @@ fn put_row(row: &[i32], lane: u32, d: usize, places: &[usize], room: &mut [LaneW
         ≡ lane_of (slice_index_or room.old (65 * k + e) []) i }
 {
     for k in 0..places.len() {
-        room[65 * k + d].set(lane, row[places[k]]);
+        room[65 * k + d].set(lane, row.get(places[k]));
     }
 }
 
 // The integers of member `i`, whose lane is live, `d` instants later.
-fn row_of<'a>(at: &InstantRange<'a, '_>, i: usize, d: usize) -> &'a [i32]
+fn row_of<'a>(at: &InstantRange<'a, '_>, i: usize, d: usize) -> NumberRow<'a>
     requires member { i < length at.now.at.members.now }
     requires instant { at.now.at.t + d < at.now.until }
     requires live { on at.now.at.live.0 i ≡ true }
-    ensures count { length result.now
-        ≡ length (number_columns 0 (kinds_of at.now.at.set.now.signature)) }
+    ensures count { length result ≡ length (number_columns 0 (kinds_of at.now.at.set.now.signature)) }
     ensures numbers { (w : ℕ)
         → w < length (number_columns 0 (kinds_of at.now.at.set.now.signature))
-        → get_or result.now w (pos 0)
+        → get_or result w (pos 0)
         ≡ member_cell at.now.at.set.now at.now.at.members.now at.now.at.begins.now (at.now.at.t + d)
         i (get_or (number_columns 0 (kinds_of at.now.at.set.now.signature)) w 0) }
 {
@@ -130,7 +130,7 @@ fn put_member(
         return;
     }
     for d in 0..count {
-        put_row(row_of(at, i, d), i as u32, d, places, room);
+        put_row(&row_of(at, i, d), i as u32, d, places, room);
     }
 }
 
@@ -189,10 +189,10 @@ fn put_four_members(
             room,
             d,
             first as u32,
-            row_of(at, first, d),
-            row_of(at, first + 1, d),
-            row_of(at, first + 2, d),
-            row_of(at, first + 3, d),
+            &row_of(at, first, d),
+            &row_of(at, first + 1, d),
+            &row_of(at, first + 2, d),
+            &row_of(at, first + 3, d),
             places,
         );
     }
@@ -305,6 +305,9 @@ pub(crate) fn load_ahead(
         (number_columns 0 (kinds_of at.now.at.set.now.signature)) places.now room.new }
     ensures lanes { at.now.at.t < result.until → AreAmong at.now.at.live.0 result.lanes.0 }
 {
+    if places.is_empty() {
+        return last;
+    }
     if room.len() / 65 < places.len() {
         load_numbers(&at.at, places, words);
         return last;

@@ -13,6 +13,7 @@ ghost use Rattle.lb_lanes.specs.Kernels.{lane_of};
 ghost use Rattle.lb_sim.specs.Loads.{four_at, one_of_four};
 
 use lb_lanes::LaneWord;
+use lb_traces::NumberRow;
 
 // Puts four integers into four lanes of a word that lie side by side.
 fn set_four(word: &mut LaneWord, first: u32, a: i32, b: i32, c: i32, d: i32)
@@ -28,9 +29,31 @@ fn set_four(word: &mut LaneWord, first: u32, a: i32, b: i32, c: i32, d: i32)
     word.set(first + 3, d);
 }
 
-/// Puts the integers of four rows at `places` into four lanes of the words at these places, a lane
-/// for each row.
-pub(crate) fn put_four(
+// Puts the integers of four rows at a place into four lanes of a word that lie side by side.
+fn set_four_of(
+    word: &mut LaneWord,
+    first: u32,
+    a: &NumberRow<'_>,
+    b: &NumberRow<'_>,
+    c: &NumberRow<'_>,
+    d: &NumberRow<'_>,
+    w: usize,
+)
+    requires lanes { first + 4 ≤ 64 }
+    requires row_a { w < length a.now }
+    requires row_b { w < length b.now }
+    requires row_c { w < length c.now }
+    requires row_d { w < length d.now }
+    ensures put { (i : ℕ) → first ≤ i → i < first + 4
+        → lane_of word.new i ≡ four_at first a.now b.now c.now d.now w i }
+    ensures others { (i : ℕ) → i < 64 → (i < first) ⊎ (first + 4 ≤ i)
+        → lane_of word.new i ≡ lane_of word.old i }
+{
+    set_four(word, first, a.get(w), b.get(w), c.get(w), d.get(w));
+}
+
+// `put_four` for rows of 32 bits an integer.
+fn put_four_wide(
     words: &mut [LaneWord],
     first: u32,
     a: &[i32],
@@ -58,9 +81,42 @@ pub(crate) fn put_four(
     }
 }
 
-/// Puts the integers of four rows at `places` into four lanes of the words of an instant, a lane
-/// for each row. Each place has words for 64 instants, and one more word.
-pub(crate) fn put_four_ahead(
+/// Puts the integers of four rows at `places` into four lanes of the words at these places, a lane
+/// for each row.
+pub(crate) fn put_four(
+    words: &mut [LaneWord],
+    first: u32,
+    a: &NumberRow<'_>,
+    b: &NumberRow<'_>,
+    c: &NumberRow<'_>,
+    d: &NumberRow<'_>,
+    places: &[usize],
+)
+    requires lanes { first + 4 ≤ 64 }
+    requires row_a { length a.now ≡ length words.old }
+    requires row_b { length b.now ≡ length words.old }
+    requires row_c { length c.now ≡ length words.old }
+    requires row_d { length d.now ≡ length words.old }
+    requires within { All (λ w. w < length words.old) places.now }
+    ensures words { length words.new ≡ length words.old }
+    ensures put { (k i : ℕ) → k < length places.now → first ≤ i → i < first + 4
+        → lane_of (slice_index_or words.new (slice_index places.now k) []) i
+        ≡ four_at first a.now b.now c.now d.now (slice_index places.now k) i }
+    ensures others { (w i : ℕ) → i < 64 → (i < first) ⊎ (first + 4 ≤ i)
+        → lane_of (slice_index_or words.new w []) i ≡ lane_of (slice_index_or words.old w []) i }
+{
+    if let (Some(a), Some(b), Some(c), Some(d)) = (a.wide(), b.wide(), c.wide(), d.wide()) {
+        put_four_wide(words, first, a, b, c, d, places);
+        return;
+    }
+    for k in 0..places.len() {
+        let w = places[k];
+        set_four_of(&mut words[w], first, a, b, c, d, w);
+    }
+}
+
+// `put_four_ahead` for rows of 32 bits an integer.
+fn put_four_wide_ahead(
     room: &mut [LaneWord],
     instant: usize,
     first: u32,
@@ -89,5 +145,43 @@ pub(crate) fn put_four_ahead(
     for k in 0..places.len() {
         let w = places[k];
         set_four(&mut room[65 * k + instant], first, a[w], b[w], c[w], d[w]);
+    }
+}
+
+/// Puts the integers of four rows at `places` into four lanes of the words of an instant, a lane
+/// for each row. Each place has words for 64 instants, and one more word.
+pub(crate) fn put_four_ahead(
+    room: &mut [LaneWord],
+    instant: usize,
+    first: u32,
+    a: &NumberRow<'_>,
+    b: &NumberRow<'_>,
+    c: &NumberRow<'_>,
+    d: &NumberRow<'_>,
+    places: &[usize],
+)
+    requires instant { instant < 64 }
+    requires lanes { first + 4 ≤ 64 }
+    requires room { 65 * length places.now ≤ length room.old }
+    requires row_a { All (λ w. w < length a.now) places.now }
+    requires row_b { length b.now ≡ length a.now }
+    requires row_c { length c.now ≡ length a.now }
+    requires row_d { length d.now ≡ length a.now }
+    ensures room { length room.new ≡ length room.old }
+    ensures put { (k i : ℕ) → k < length places.now → first ≤ i → i < first + 4
+        → lane_of (slice_index_or room.new (65 * k + instant) []) i
+        ≡ four_at first a.now b.now c.now d.now (slice_index places.now k) i }
+    ensures others { (k e i : ℕ) → e < 64 → i < 64
+        → (e ≢ instant) ⊎ ((i < first) ⊎ (first + 4 ≤ i))
+        → lane_of (slice_index_or room.new (65 * k + e) []) i
+        ≡ lane_of (slice_index_or room.old (65 * k + e) []) i }
+{
+    if let (Some(a), Some(b), Some(c), Some(d)) = (a.wide(), b.wide(), c.wide(), d.wide()) {
+        put_four_wide_ahead(room, instant, first, a, b, c, d, places);
+        return;
+    }
+    for k in 0..places.len() {
+        let w = places[k];
+        set_four_of(&mut room[65 * k + instant], first, a, b, c, d, w);
     }
 }

@@ -16,15 +16,15 @@ use crate::four_lanes::put_four;
 use crate::lane_bits::put_numbers;
 use crate::loads::Instant;
 use lb_lanes::LaneWord;
+use lb_traces::NumberRow;
 
 // The integers of member `i`, whose lane is live.
-fn numbers_of<'a>(at: &Instant<'a, '_>, i: usize) -> &'a [i32]
+fn numbers_of<'a>(at: &Instant<'a, '_>, i: usize) -> NumberRow<'a>
     requires member { i < length at.now.members.now }
     requires live { on at.now.live.0 i ≡ true }
-    ensures count { length result.now
-        ≡ length (number_columns 0 (kinds_of at.now.set.now.signature)) }
+    ensures count { length result ≡ length (number_columns 0 (kinds_of at.now.set.now.signature)) }
     ensures numbers { (w : ℕ) → w < length (number_columns 0 (kinds_of at.now.set.now.signature))
-        → get_or result.now w (pos 0)
+        → get_or result w (pos 0)
         ≡ member_cell at.now.set.now at.now.members.now at.now.begins.now at.now.t i
         (get_or (number_columns 0 (kinds_of at.now.set.now.signature)) w 0) }
 {
@@ -44,7 +44,7 @@ fn put_member(at: &Instant<'_, '_>, places: &[usize], i: usize, words: &mut [Lan
     if !at.live.get(i as u32) {
         return;
     }
-    put_numbers(words, i as u32, numbers_of(at, i), places);
+    put_numbers(words, i as u32, &numbers_of(at, i), places);
 }
 
 // Puts the integers of the members from `first` to before `end` into the live lanes, one by one.
@@ -95,10 +95,10 @@ fn put_four_members(at: &Instant<'_, '_>, places: &[usize], first: usize, words:
     put_four(
         words,
         first as u32,
-        numbers_of(at, first),
-        numbers_of(at, first + 1),
-        numbers_of(at, first + 2),
-        numbers_of(at, first + 3),
+        &numbers_of(at, first),
+        &numbers_of(at, first + 1),
+        &numbers_of(at, first + 2),
+        &numbers_of(at, first + 3),
         places,
     );
 }

@@ -9,6 +9,7 @@ ghost use Rattle.lb_lanes.specs.Planes.{IsPlaneOf, on};
 ghost use Rattle.lb_sim.specs.InputRows.{AreZero};
 
 use lb_lanes::{LaneWord, Plane, transpose};
+use lb_traces::NumberRow;
 use std::alloc::{AllocError, Global};
 
 /// The plane with one more lane.
@@ -143,7 +144,7 @@ fn put_planes(planes: &mut [u64], first: usize, words: &[u64; 64], count: usize)
 }
 
 /// Puts the integers of a row at `places` into one lane of the words at these places.
-pub(crate) fn put_numbers(words: &mut [LaneWord], lane: u32, row: &[i32], places: &[usize])
+pub(crate) fn put_numbers(words: &mut [LaneWord], lane: u32, row: &NumberRow<'_>, places: &[usize])
     requires lane { lane < 64 }
     requires room { length words.old ≡ length row.now }
     requires within { All (λ w. w < length words.old) places.now }
@@ -156,7 +157,7 @@ pub(crate) fn put_numbers(words: &mut [LaneWord], lane: u32, row: &[i32], places
 {
     for k in 0..places.len() {
         let w = places[k];
-        words[w].set(lane, row[w]);
+        words[w].set(lane, row.get(w));
     }
 }
 

@@ -160,6 +160,13 @@ impl Recorder {
         let _ = self.rows.reserve((bytes / 2 + 1).min(MOST_CELLS));
     }
 
+    /// Says whether the integers of rows take 16 bits each from now on, where most of them fit.
+    pub(crate) fn set_packing(&mut self, packs: bool)
+        ensures { self.new ≡ self.old }
+    {
+        self.rows.set_packing(packs);
+    }
+
     /// Drops all traces, and keeps their memory for others.
     pub(crate) fn clear(&mut self)
         ensures rows { self.new.rows ≡ record self.old.rows { traces = [] } }

@@ -35,15 +35,18 @@ pub struct RoundReader {
 impl RoundReader {
     ghost use Rattle.lb_trace.specs.RoundReaders.{IsRound, goes_on};
 
-    /// No trace yet, with room for `cells` cells.
+    /// No trace yet, with room for `cells` cells. If `packs` is true, the integers of rows take 16
+    /// bits each where most of them fit.
     pub fn new(
         alloc: Global,
         signature: &Signature,
         cells: usize,
+        packs: bool,
     ) -> Result<RoundReader, AllocError>
         ensures { IfOk result (IsRound signature.now []) }
     {
         let mut recorder = Recorder::new(alloc, signature)?;
+        recorder.set_packing(packs);
         recorder.make_room(cells.saturating_mul(2));
         Ok(RoundReader {
             recorder,

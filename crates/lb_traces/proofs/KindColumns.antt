@@ -71,12 +71,12 @@ places_push j u v (Int_kind ∷ kinds) k =
     ∙ ap (λ a. places_from (suc u) v kinds ++ places_from a (v + n) (k ∷ [])) e)
 
 -- there are no more columns of a kind than columns
-few_truths : (j : ℕ) (kinds : List Kind) → length (truth_columns j kinds) ≤ length kinds
+pub few_truths : (j : ℕ) (kinds : List Kind) → length (truth_columns j kinds) ≤ length kinds
 few_truths j [] = omega arith
 few_truths j (Bool_kind ∷ kinds) = omega (arith, few_truths (suc j) kinds)
 few_truths j (Int_kind ∷ kinds) = omega (arith, few_truths (suc j) kinds)
 
-few_numbers : (j : ℕ) (kinds : List Kind) → length (number_columns j kinds) ≤ length kinds
+pub few_numbers : (j : ℕ) (kinds : List Kind) → length (number_columns j kinds) ≤ length kinds
 few_numbers j [] = omega arith
 few_numbers j (Bool_kind ∷ kinds) = omega (arith, few_numbers (suc j) kinds)
 few_numbers j (Int_kind ∷ kinds) = omega (arith, few_numbers (suc j) kinds)

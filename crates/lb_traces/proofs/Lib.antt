@@ -13,3 +13,7 @@ pub mod RowsFound
 pub mod BitRows
 pub mod SixteenLanes
 pub mod SixteenRows
+pub mod NarrowLists
+pub mod IntegerCounts
+pub mod RowParts
+pub mod PushedLists

@@ -1,7 +1,7 @@
 -- Sixteen lanes at once.
-use Rattle.std.proofs.Common.{ℕ, ◌≡◌, ◌+◌, ◌-◌, ◌*◌, ◌/◌, ◌%◌, ◌^◌, ◌<◌, ◌≤◌, ◌==◌, Bool, true}
+use Rattle.std.proofs.Common.{ℕ, ◌≡◌, ◌+◌, ◌-◌, ◌/◌, ◌%◌, ◌^◌, ◌<◌, ◌≤◌, ◌==◌, Bool, true}
 use Rattle.std.proofs.Common.{false, cond, eqb, List, length, get_or, map, take, drop, replicate, ℤ}
-use Rattle.std.proofs.Common.{pos, w32, to_z, of_z, Fits, refl, sym, ap, ap₂, ◌∙◌, subst, arith}
+use Rattle.std.proofs.Common.{pos, w32, to_z, of_z, Fits, refl, sym, ap, ◌∙◌, subst, arith}
 use Rattle.std.proofs.Common.{length-drop}
 use Rattle.std.proofs.lemmas.Bool.Decides.{nat_tests}
 use Rattle.std.proofs.lemmas.Int.{to_z-of_z}

@@ -1,7 +1,7 @@
 -- Sixteen neighbours of a row at once.
 use Rattle.std.proofs.Common.{ℕ, zero, suc, ◌≡◌, ◌+◌, ◌-◌, ◌*◌, ◌^◌, ◌%◌, ◌<◌, ◌≤◌, ◌==◌, ◌⊎◌, inl}
-use Rattle.std.proofs.Common.{inr, Bool, List, [], ◌∷◌, ◌++◌, ℤ, pos, length, get_or, map, max}
-use Rattle.std.proofs.Common.{take, drop, All, refl, sym, ap, ◌∙◌, subst, arith, length-drop}
+use Rattle.std.proofs.Common.{inr, List, [], ◌∷◌, ◌++◌, ℤ, pos, length, get_or, map, max}
+use Rattle.std.proofs.Common.{take, drop, All, sym, ap, ◌∙◌, subst, arith, length-drop}
 use Rattle.std.proofs.Math.Nat.{mul-le-mul_right, pow-le-pow_right}
 use Rattle.std.proofs.Math.Seq.{take-add}
 use Rattle.std.proofs.lemmas.Bool.{cases_lt}

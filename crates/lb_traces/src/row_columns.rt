@@ -1,6 +1,6 @@
 //! The columns of a signature, by their kinds.
 
-ghost use Rattle.std.specs.Prelude.{IfOk};
+ghost use Rattle.std.specs.Prelude.{◌≡◌, ◌<◌, length, get_or, pos, IfOk, All};
 ghost use Rattle.lb_static.specs.Signature.{kinds_of};
 ghost use Rattle.lb_traces.specs.Packed.{AreColumns};
 
@@ -44,4 +44,13 @@ pub(crate) fn row_columns(alloc: Global, signature: &Signature) -> Result<RowCol
         truths,
         places,
     })
+}
+
+/// The cell of a row in column `c` of `columns`.
+pub(crate) fn cell_in(row: &[i32], columns: &[u32], c: usize) -> i32
+    requires column { c < length columns.now }
+    requires columns { All (λ j. j < length row.now) columns.now }
+    ensures { result ≡ get_or row.now (get_or columns.now c (length row.now)) (pos 0) }
+{
+    row[columns[c] as usize]
 }

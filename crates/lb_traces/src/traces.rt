@@ -28,7 +28,8 @@ ghost use Rattle.lb_traces.specs.BitRows.{AreTruths, row_of_bits};
 use crate::names::Names;
 pub use crate::names::is_trace_name;
 use crate::neighbours::{are_neighbours, truths_in};
-use crate::row_columns::{RowColumns, row_columns};
+use crate::numbers::{NumberRow, Numbers};
+use crate::row_columns::{RowColumns, cell_in, row_columns};
 use lb_static::Signature;
 use lb_syntax::Kind;
 use std::alloc::{AllocError, Global};
@@ -42,7 +43,7 @@ pub struct TraceSet {
     signature: Signature,
     names: Names,
     /// The integers of all rows, one row after the other.
-    numbers: Vec<i32>,
+    numbers: Numbers,
     /// The Booleans of all rows as the bits of words, `words_of_row` words for each row.
     words: Vec<u64>,
     /// 0, and for each trace the number of rows up to its end.
@@ -72,40 +73,6 @@ fn words_of_row(booleans: usize) -> usize
         booleans / 64
     } else {
         booleans / 64 + 1
-    }
-}
-
-// The cell of a row in column `c` of `columns`.
-fn cell_in(row: &[i32], columns: &[u32], c: usize) -> i32
-    requires column { c < length columns.now }
-    requires columns { All (λ j. j < length row.now) columns.now }
-    ensures { result ≡ get_or row.now (get_or columns.now c (length row.now)) (pos 0) }
-{
-    row[columns[c] as usize]
-}
-
-// Adds the integers of one more row, for which there is room. A row of integers alone is one copy.
-fn push_numbers(numbers: &mut Vec<i32>, row: &[i32], columns: &[u32])
-    requires room { vec_len numbers.old + length columns.now ≤ vec_capacity numbers.old }
-    requires columns { All (λ j. j < length row.now) columns.now }
-    requires alone { length columns.now ≡ length row.now
-        → numbers_in row.now columns.now ≡ row.now }
-    ensures { numbers.new.items ≡ numbers.old.items ++ numbers_in row.now columns.now }
-{
-    if columns.len() == row.len() {
-        let _ = numbers.extend_from_slice(row);
-        return;
-    }
-    let mut w = 0;
-    while w < columns.len() {
-        if columns.len() - w >= 16 && are_neighbours(columns, w) {
-            let start = columns[w] as usize;
-            let _ = numbers.extend_from_slice(&row[start..start + 16]);
-            w += 16;
-        } else {
-            numbers.push_reserved(cell_in(row, columns, w));
-            w += 1;
-        }
     }
 }
 
@@ -180,6 +147,11 @@ impl TraceSet {
         self.names.len()
     }
 
+    /// How many bytes the rows take.
+    pub fn bytes(&self) -> usize {
+        self.numbers.bytes() + 8 * self.words.len()
+    }
+
     /// The number of instants of all traces together.
     pub fn instants(&self) -> u32
         ensures count { result ≡ instants_of self.now.traces }
@@ -215,7 +187,7 @@ impl TraceSet {
     {
         let row = self.row_ends[k as usize] as usize + t as usize;
         let w = self.columns.places[column as usize] as usize;
-        self.numbers[row * self.columns.integers.len() + w]
+        self.numbers.get(row * self.columns.integers.len() + w)
     }
 
     /// The Boolean of a trace at an instant, in a column of the signature.
@@ -232,18 +204,17 @@ impl TraceSet {
     }
 
     /// The integers of a trace at an instant, in the order of the signature.
-    pub fn numbers(&self, k: u32, t: u32) -> &[i32]
+    pub fn numbers(&self, k: u32, t: u32) -> NumberRow<'_>
         requires trace { k < length self.now.traces }
         requires instant { t < length (trace_at self.now.traces k).1 }
-        ensures count { length result.now
-            ≡ length (number_columns 0 (kinds_of self.now.signature)) }
+        ensures count { length result ≡ length (number_columns 0 (kinds_of self.now.signature)) }
         ensures numbers { (w : ℕ) → w < length (number_columns 0 (kinds_of self.now.signature))
-            → get_or result.now w (pos 0) ≡ cell_at self.now.traces k t
+            → get_or result w (pos 0) ≡ cell_at self.now.traces k t
             (get_or (number_columns 0 (kinds_of self.now.signature)) w 0) }
     {
         let width = self.columns.integers.len();
         let start = (self.row_ends[k as usize] as usize + t as usize) * width;
-        &self.numbers.as_slice()[start..start + width]
+        self.numbers.row(start, width)
     }
 
     /// The Booleans of a trace at `count` instants from `t` on, in the order of the signature, as
@@ -303,6 +274,13 @@ impl TraceSet {
         self.words.reserve(rows.saturating_mul(words_of_row(self.columns.truths.len())))
     }
 
+    // Says whether integers are packed from now on.
+    fn set_packing(&mut self, packs: bool)
+        ensures { self.new ≡ self.old }
+    {
+        self.numbers.set_packing(packs);
+    }
+
     // Drops all traces.
     fn clear(&mut self)
         ensures { self.new ≡ record self.old { traces = [] } }
@@ -325,11 +303,11 @@ impl TraceSet {
             (self.new ≡ record self.old { traces = with_trace self.old.traces name.now row.now }) }
         ensures err { OnErr result (self.new ≡ self.old) }
     {
-        self.numbers.reserve(self.columns.integers.len())?;
+        self.numbers.reserve_row(self.columns.integers.len())?;
         self.row_ends.reserve(1)?;
         self.words.reserve(words_of_row(self.columns.truths.len()))?;
         self.names.push(name)?;
-        push_numbers(&mut self.numbers, row, self.columns.integers.as_slice());
+        self.numbers.push_row(row, self.columns.integers.as_slice());
         push_words(&mut self.words, row, self.columns.truths.as_slice());
         let rows = self.row_ends[self.row_ends.len() - 1];
         let _ = self.row_ends.push(rows + 1);
@@ -347,8 +325,8 @@ impl TraceSet {
         ensures err { OnErr result (self.new ≡ self.old) }
     {
         self.words.reserve(words_of_row(self.columns.truths.len()))?;
-        self.numbers.reserve(self.columns.integers.len())?;
-        push_numbers(&mut self.numbers, row, self.columns.integers.as_slice());
+        self.numbers.reserve_next(self.columns.integers.len())?;
+        self.numbers.push_row(row, self.columns.integers.as_slice());
         push_words(&mut self.words, row, self.columns.truths.as_slice());
         let last = self.row_ends.len() - 1;
         self.row_ends[last] += 1;
@@ -392,10 +370,10 @@ impl TraceSet {
         let past = first + added as usize;
         let width = set.columns.integers.len();
         let count = words_of_row(set.columns.truths.len());
-        let numbers = &set.numbers.as_slice()[first * width..past * width];
         let words = &set.words.as_slice()[first * count..past * count];
         self.words.reserve(words.len())?;
-        self.numbers.extend_from_slice(numbers)?;
+        self.numbers
+            .extend(&set.numbers, first * width, past * width)?;
         let _ = self.words.extend_from_slice(words);
         let last = self.row_ends.len() - 1;
         self.row_ends[last] += added;
@@ -439,7 +417,7 @@ impl TraceRows {
             set: TraceSet {
                 signature: signature.copy(alloc)?,
                 names: Names::new(alloc)?,
-                numbers: Vec::new(alloc),
+                numbers: Numbers::new(alloc),
                 words: Vec::new(alloc),
                 row_ends,
                 columns,
@@ -453,6 +431,14 @@ impl TraceRows {
         ensures { self.new ≡ self.old }
     {
         self.set.reserve(cells)
+    }
+
+    /// Says whether the integers of rows are packed from now on: they then take 16 bits each where
+    /// most of them fit, and else 32 bits, as at first.
+    pub fn set_packing(&mut self, packs: bool)
+        ensures { self.new ≡ self.old }
+    {
+        self.set.set_packing(packs);
     }
 
     /// Drops all traces, and keeps their memory for others.

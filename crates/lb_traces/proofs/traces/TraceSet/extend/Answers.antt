@@ -1,9 +1,10 @@
 -- The integers and the words have grown by those of the rows, and the last place by their number.
-use Rattle.std.proofs.Common.{arith, rules, ◌≡◌, ◌++◌, length, ◌+◌, ◌-◌, ◌*◌, ap, ◌∙◌, set, take}
+use Rattle.std.proofs.Common.{arith, rules, ◌≡◌, ◌++◌, length, ◌+◌, ◌-◌, ◌*◌, ap, ◌∙◌, set, take, refl}
 use Rattle.std.proofs.Common.{drop, is_ok, true, length-drop}
 use Rattle.lb_traces.specs.Traces.{with_rows, rows_from, trace_at}
 use Rattle.lb_traces.specs.Ledger.{last_place}
 use Rattle.lb_traces.specs.Packed.{cells_of, words_of_row}
+use Rattle.lb_traces.proofs.IntegerCounts.{integers-limit}
 use Rattle.lb_traces.proofs.Ledgers.{read_last}
 use Rattle.lb_traces.proofs.Storing.{count_of}
 use Rattle.lb_traces.proofs.AddedRows.{Changed}
@@ -19,8 +20,8 @@ index-requires c =
     c.set.view_is in
     omega (arith, c.requires.trace, c.set.invariant.parts.rows.paired, count)
 
-pub overflow_mul-numbers : goal.overflow_mul-numbers
-overflow_mul-numbers c =
+pub overflow_mul-first : goal.overflow_mul-first
+overflow_mul-first c =
     let rest =
     finds_rest c.args.set.now c.set.inside.signature c.set.inside.names c.set.inside.numbers.items
     c.set.inside.words.items
@@ -31,10 +32,17 @@ overflow_mul-numbers c =
     c.args.from c.length.result c.len-width.result c.words_of_row-count.result c.index.ensures
     c.requires.from c.length.ensures.instants (search rules)
     (c.words_of_row-count.ensures ∙ ap words_of_row (search rules)) in
-    omega (arith, rest.numbers_fit, rest.numbers_first, c.set.inside.numbers.small)
+    omega (
+      arith,
+      rest.numbers_fit,
+      rest.numbers_first,
+      integers-limit c.set.inside.signature c.set.inside.names c.set.inside.numbers.items
+          c.set.inside.words.items c.set.inside.row_ends.items c.set.inside.columns.integers.items
+          c.set.inside.columns.truths.items c.set.inside.columns.places.items c.set.invariant,
+    )
 
-pub overflow_mul-numbers-2 : goal.overflow_mul-numbers-2
-overflow_mul-numbers-2 c =
+pub overflow_mul-past : goal.overflow_mul-past
+overflow_mul-past c =
     let rest =
     finds_rest c.args.set.now c.set.inside.signature c.set.inside.names c.set.inside.numbers.items
     c.set.inside.words.items
@@ -45,10 +53,16 @@ overflow_mul-numbers-2 c =
     c.args.from c.length.result c.len-width.result c.words_of_row-count.result c.index.ensures
     c.requires.from c.length.ensures.instants (search rules)
     (c.words_of_row-count.ensures ∙ ap words_of_row (search rules)) in
-    omega (arith, rest.numbers_fit, c.set.inside.numbers.small)
+    omega (
+      arith,
+      rest.numbers_fit,
+      integers-limit c.set.inside.signature c.set.inside.names c.set.inside.numbers.items
+          c.set.inside.words.items c.set.inside.row_ends.items c.set.inside.columns.integers.items
+          c.set.inside.columns.truths.items c.set.inside.columns.places.items c.set.invariant,
+    )
 
-pub offset_bounds-as_slice-first : goal.offset_bounds-as_slice-first
-offset_bounds-as_slice-first c =
+pub extend-requires-clause-order : goal.extend-requires-clause-order
+extend-requires-clause-order c =
     let rest =
     finds_rest c.args.set.now c.set.inside.signature c.set.inside.names c.set.inside.numbers.items
     c.set.inside.words.items
@@ -59,10 +73,10 @@ offset_bounds-as_slice-first c =
     c.args.from c.length.result c.len-width.result c.words_of_row-count.result c.index.ensures
     c.requires.from c.length.ensures.instants (search rules)
     (c.words_of_row-count.ensures ∙ ap words_of_row (search rules)) in
-    omega (arith, rest.numbers_fit, rest.numbers_first, c.set.inside.numbers.small)
+    rest.numbers_first
 
-pub slice_bounds-numbers-end : goal.slice_bounds-numbers-end
-slice_bounds-numbers-end c =
+pub extend-requires-clause-within : goal.extend-requires-clause-within
+extend-requires-clause-within c =
     let rest =
     finds_rest c.args.set.now c.set.inside.signature c.set.inside.names c.set.inside.numbers.items
     c.set.inside.words.items
@@ -73,7 +87,7 @@ slice_bounds-numbers-end c =
     c.args.from c.length.result c.len-width.result c.words_of_row-count.result c.index.ensures
     c.requires.from c.length.ensures.instants (search rules)
     (c.words_of_row-count.ensures ∙ ap words_of_row (search rules)) in
-    omega (arith, rest.numbers_fit, rest.numbers_first)
+    rest.numbers_fit
 
 pub overflow_mul-words : goal.overflow_mul-words
 overflow_mul-words c =
@@ -103,8 +117,8 @@ overflow_mul-words-2 c =
     (c.words_of_row-count.ensures ∙ ap words_of_row (search rules)) in
     omega (arith, rest.words_fit, c.set.inside.words.small)
 
-pub offset_bounds-as_slice-first-2 : goal.offset_bounds-as_slice-first-2
-offset_bounds-as_slice-first-2 c =
+pub offset_bounds-as_slice-first : goal.offset_bounds-as_slice-first
+offset_bounds-as_slice-first c =
     let rest =
     finds_rest c.args.set.now c.set.inside.signature c.set.inside.names c.set.inside.numbers.items
     c.set.inside.words.items
@@ -158,24 +172,24 @@ at_end c =
     let count : c.len-last.result ≡ length c.self.inside.row_ends.items = search rules in
     omega (arith, c.self.invariant.parts.rows.ledger.not_empty)
 
-numbers_are : (c : goal.After-self-1) → c.extend_from_slice.new.self.items
+numbers_are : (c : goal.After-self-1) → c.extend.new.self.items
     ≡ c.self.inside.numbers.items
     ++ take ((c.index.result.now + c.args.from + (c.length.result - c.args.from))
     * c.len-width.result - (c.index.result.now + c.args.from) * c.len-width.result)
-    (drop ((c.index.result.now + c.args.from) * c.len-width.result) c.as_slice.result.now)
-numbers_are c = c.in_ok-extend_from_slice.ensures.items
+    (drop ((c.index.result.now + c.args.from) * c.len-width.result) c.set.inside.numbers.items)
+numbers_are c = c.in_ok-extend.ensures.ok
 
-words_are : (c : goal.After-self-1) → c.extend_from_slice-2.new.self.items
+words_are : (c : goal.After-self-1) → c.extend_from_slice.new.self.items
     ≡ c.self.inside.words.items
     ++ take ((c.index.result.now + c.args.from + (c.length.result - c.args.from))
     * c.words_of_row-count.result
     - (c.index.result.now + c.args.from) * c.words_of_row-count.result)
     (drop ((c.index.result.now + c.args.from) * c.words_of_row-count.result)
-    c.as_slice-2.result.now)
+    c.as_slice.result.now)
 words_are c =
-    let room : is_ok c.extend_from_slice-2.result ≡ true =
-    c.extend_from_slice-2.ensures.succeeds (omega (arith, c.in_ok-reserve.ensures.ok)) in
-    rw (← c.in_ok-reserve.ensures.items) (rw room at c.extend_from_slice-2.ensures.items)
+    let room : is_ok c.extend_from_slice.result ≡ true =
+    c.extend_from_slice.ensures.succeeds (omega (arith, c.in_ok-reserve.ensures.ok)) in
+    rw (← c.in_ok-reserve.ensures.items) (rw room at c.extend_from_slice.ensures.items)
 
 changed :
     (c : goal.After-self-1) →
@@ -183,13 +197,13 @@ changed :
     (c.self.inside.numbers.items
     ++ take ((c.index.result.now + c.args.from + (c.length.result - c.args.from))
     * c.len-width.result - (c.index.result.now + c.args.from) * c.len-width.result)
-    (drop ((c.index.result.now + c.args.from) * c.len-width.result) c.as_slice.result.now))
+    (drop ((c.index.result.now + c.args.from) * c.len-width.result) c.set.inside.numbers.items))
     (c.self.inside.words.items
     ++ take ((c.index.result.now + c.args.from + (c.length.result - c.args.from))
     * c.words_of_row-count.result
     - (c.index.result.now + c.args.from) * c.words_of_row-count.result)
     (drop ((c.index.result.now + c.args.from) * c.words_of_row-count.result)
-    c.as_slice-2.result.now))
+    c.as_slice.result.now))
     (set c.self.inside.row_ends.items (c.len-last.result - 1)
     (last_place c.self.inside.row_ends.items + (c.length.result - c.args.from)))
     c.self.inside.columns.integers.items c.self.inside.columns.truths.items
@@ -216,8 +230,8 @@ changed c =
     c.self.inside.columns.truths.items
     c.self.inside.columns.places.items
     (c.len-last.result - 1) c.self.view_is c.self.invariant c.requires.signature c.requires.started
-    (at_end c) c.as_slice.result.now c.as_slice-2.result.now c.as_slice.ensures.value
-    c.as_slice-2.ensures.value c.requires.instants c.requires.room
+    (at_end c) c.set.inside.numbers.items c.as_slice.result.now refl
+    c.as_slice.ensures.value c.requires.instants c.requires.room
 
 pub invariant_of-self-2 : goal.invariant_of-self-2
 invariant_of-self-2 c = rw (numbers_are c, words_are c, rows_are c) (changed c).is

@@ -3,10 +3,10 @@ use Rattle.std.proofs.Common.{arith, rules, ◌≡◌, ◌<◌, ◌≤◌, ◌+�
 use Rattle.std.proofs.Common.{subst}
 use Rattle.std.proofs.Common.{pos, w32}
 use Rattle.std.proofs.lemmas.Int.{to_z-of_z}
-use Rattle.std.proofs.lemmas.List.{get_or_read}
 use mir.Val.{SFits}
 use Rattle.lb_syntax.specs.declared.tree.Kind.TheVariants.{Int}
 use Rattle.lb_traces.specs.Packed.{cells_of}
+use Rattle.lb_traces.proofs.IntegerCounts.{integers-limit}
 use Rattle.lb_traces.proofs.Storing.{count_of}
 use Rattle.lb_traces.proofs.FoundCells.{place_in, numbers_fit, number_within, number_found}
 use Rattle.lb_traces.proofs.traces.TraceSet.int_at.Goals as goal
@@ -44,7 +44,13 @@ overflow_mul-row c =
     c.self.inside.columns.places.items c.args.k c.self.view_is c.self.invariant c.requires.trace
     c.args.t c.index.result.now
     c.requires.instant c.index.ensures) in
-    omega (arith, fit, c.self.inside.numbers.small)
+    omega (
+      arith,
+      fit,
+      integers-limit c.self.inside.signature c.self.inside.names c.self.inside.numbers.items
+          c.self.inside.words.items c.self.inside.row_ends.items c.self.inside.columns.integers.items
+          c.self.inside.columns.truths.items c.self.inside.columns.places.items c.self.invariant,
+    )
 
 pub overflow_add-row-2 : goal.overflow_add-row-2
 overflow_add-row-2 c =
@@ -74,10 +80,17 @@ overflow_add-row-2 c =
           c.args.column c.index-2.result.now c.index-2.ensures c.requires.kind,
       wide,
     ) in
-    omega (arith, fit, place, c.self.inside.numbers.small)
+    omega (
+      arith,
+      fit,
+      place,
+      integers-limit c.self.inside.signature c.self.inside.names c.self.inside.numbers.items
+          c.self.inside.words.items c.self.inside.row_ends.items c.self.inside.columns.integers.items
+          c.self.inside.columns.truths.items c.self.inside.columns.places.items c.self.invariant,
+    )
 
-pub index-requires-3 : goal.index-requires-3
-index-requires-3 c =
+pub get-requires : goal.get-requires
+get-requires c =
     let wide : c.len.result ≡ length c.self.inside.columns.integers.items = search rules in
     let fit : (c.index.result.now + c.args.t) * c.len.result + c.len.result
     ≤ length c.self.inside.numbers.items =
@@ -137,10 +150,8 @@ returns c =
     let row = c.index.result.now + c.args.t in
     let inside : (c.index.result.now + c.args.t) * c.len.result + c.index-2.result.now
     < length c.self.inside.numbers.items = omega (arith, fit, place) in
-    let fits : SFits w32 c.index-3.result.now = search rules in
-    to_z-of_z w32 c.index-3.result.now fits
-    ∙ get_or_read c.self.inside.numbers.items (row * c.len.result + c.index-2.result.now)
-    c.index-3.result.now inside c.index-3.ensures (pos 0)
+    let fits : SFits w32 c.get.result = search rules in
+    to_z-of_z w32 c.get.result fits ∙ c.get.ensures
     ∙ ap
     (λ w. get_or c.self.inside.numbers.items (row * w + c.index-2.result.now) (pos 0)) wide
     ∙ number_found c.args.self.now c.self.inside.signature c.self.inside.names

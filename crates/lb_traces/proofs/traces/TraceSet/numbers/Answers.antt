@@ -1,7 +1,8 @@
 -- The integers of the instant lie within all integers.
-use Rattle.std.proofs.Common.{arith, rules, ◌≡◌, ◌≤◌, ◌+◌, ◌-◌, ◌*◌, length, take, drop}
+use Rattle.std.proofs.Common.{arith, rules, ◌≡◌, ◌≤◌, ◌+◌, ◌*◌, length, take, drop}
 use Rattle.std.proofs.Common.{get_or, pos, ap, sym, ◌∙◌, subst}
 use Rattle.lb_traces.specs.Packed.{cells_of}
+use Rattle.lb_traces.proofs.IntegerCounts.{integers-limit}
 use Rattle.lb_traces.proofs.Storing.{count_of}
 use Rattle.lb_traces.proofs.FoundCells.{numbers_fit, numbers_count, numbers_found}
 use Rattle.lb_traces.proofs.traces.TraceSet.numbers.Goals as goal
@@ -29,44 +30,16 @@ overflow_mul-start c =
     c.self.inside.columns.places.items c.args.k c.self.view_is c.self.invariant c.requires.trace
     c.args.t c.index.result.now
     c.requires.instant c.index.ensures) in
-    omega (arith, fit, c.self.inside.numbers.small)
+    omega (
+      arith,
+      fit,
+      integers-limit c.self.inside.signature c.self.inside.names c.self.inside.numbers.items
+          c.self.inside.words.items c.self.inside.row_ends.items c.self.inside.columns.integers.items
+          c.self.inside.columns.truths.items c.self.inside.columns.places.items c.self.invariant,
+    )
 
-pub overflow_add-result : goal.overflow_add-result
-overflow_add-result c =
-    let wide : c.len-width.result ≡ length c.self.inside.columns.integers.items = search rules in
-    let fit : (c.index.result.now + c.args.t) * c.len-width.result + c.len-width.result
-    ≤ length c.self.inside.numbers.items =
-    subst
-    (λ w. (c.index.result.now + c.args.t) * w + w ≤ length c.self.inside.numbers.items)
-    (sym wide)
-    (numbers_fit c.args.self.now c.self.inside.signature c.self.inside.names
-    c.self.inside.numbers.items c.self.inside.words.items
-    c.self.inside.row_ends.items c.self.inside.columns.integers.items
-    c.self.inside.columns.truths.items
-    c.self.inside.columns.places.items c.args.k c.self.view_is c.self.invariant c.requires.trace
-    c.args.t c.index.result.now
-    c.requires.instant c.index.ensures) in
-    omega (arith, fit, c.self.inside.numbers.small)
-
-pub offset_bounds-as_slice-start : goal.offset_bounds-as_slice-start
-offset_bounds-as_slice-start c =
-    let wide : c.len-width.result ≡ length c.self.inside.columns.integers.items = search rules in
-    let fit : (c.index.result.now + c.args.t) * c.len-width.result + c.len-width.result
-    ≤ length c.self.inside.numbers.items =
-    subst
-    (λ w. (c.index.result.now + c.args.t) * w + w ≤ length c.self.inside.numbers.items)
-    (sym wide)
-    (numbers_fit c.args.self.now c.self.inside.signature c.self.inside.names
-    c.self.inside.numbers.items c.self.inside.words.items
-    c.self.inside.row_ends.items c.self.inside.columns.integers.items
-    c.self.inside.columns.truths.items
-    c.self.inside.columns.places.items c.args.k c.self.view_is c.self.invariant c.requires.trace
-    c.args.t c.index.result.now
-    c.requires.instant c.index.ensures) in
-    omega (arith, fit, c.self.inside.numbers.small)
-
-pub slice_bounds-result-end : goal.slice_bounds-result-end
-slice_bounds-result-end c =
+pub row-requires-clause-within : goal.row-requires-clause-within
+row-requires-clause-within c =
     let wide : c.len-width.result ≡ length c.self.inside.columns.integers.items = search rules in
     let fit : (c.index.result.now + c.args.t) * c.len-width.result + c.len-width.result
     ≤ length c.self.inside.numbers.items =
@@ -84,22 +57,15 @@ slice_bounds-result-end c =
 
 -- the part of all integers that the code takes
 taken :
-    (c : goal.After-result-1) →
-    take ((c.index.result.now + c.args.t) * c.len-width.result + c.len-width.result
-    - (c.index.result.now + c.args.t) * c.len-width.result)
-    (drop ((c.index.result.now + c.args.t) * c.len-width.result) c.as_slice.result.now)
+    (c : goal.After-row) →
+    c.row.result
     ≡ take (length c.self.inside.columns.integers.items)
     (drop ((c.index.result.now + c.args.t) * length c.self.inside.columns.integers.items)
     c.self.inside.numbers.items)
 taken c =
     let row = c.index.result.now + c.args.t in
     let wide : c.len-width.result ≡ length c.self.inside.columns.integers.items = search rules in
-    let e : row * c.len-width.result + c.len-width.result - row * c.len-width.result
-    ≡ c.len-width.result = omega arith in
-    ap (λ n. take n (drop (row * c.len-width.result) c.as_slice.result.now)) e
-    ∙ ap (λ xs. take c.len-width.result (drop (row * c.len-width.result) xs))
-    c.as_slice.ensures.value
-    ∙ ap (λ w. take w (drop (row * w) c.self.inside.numbers.items)) wide
+    c.row.ensures ∙ ap (λ w. take w (drop (row * w) c.self.inside.numbers.items)) wide
 
 pub returns-clause-count : goal.returns-clause-count
 returns-clause-count c =
@@ -122,3 +88,27 @@ returns-clause-numbers c w l =
     c.self.inside.columns.places.items c.args.k c.self.view_is c.self.invariant c.requires.trace
     c.args.t c.index.result.now
     c.requires.instant c.index.ensures w l
+
+pub row-requires-clause-few : goal.row-requires-clause-few
+row-requires-clause-few c =
+    let wide : c.len-width.result ≡ length c.self.inside.columns.integers.items = search rules in
+    let fit : (c.index.result.now + c.args.t) * c.len-width.result + c.len-width.result
+    ≤ length c.self.inside.numbers.items =
+    subst
+    (λ w. (c.index.result.now + c.args.t) * w + w ≤ length c.self.inside.numbers.items)
+    (sym wide)
+    (numbers_fit c.args.self.now c.self.inside.signature c.self.inside.names
+    c.self.inside.numbers.items c.self.inside.words.items
+    c.self.inside.row_ends.items c.self.inside.columns.integers.items
+    c.self.inside.columns.truths.items
+    c.self.inside.columns.places.items c.args.k c.self.view_is c.self.invariant c.requires.trace
+    c.args.t c.index.result.now
+    c.requires.instant c.index.ensures) in
+    omega (
+      arith,
+      fit,
+      integers-limit c.self.inside.signature c.self.inside.names c.self.inside.numbers.items
+          c.self.inside.words.items c.self.inside.row_ends.items
+          c.self.inside.columns.integers.items c.self.inside.columns.truths.items
+          c.self.inside.columns.places.items c.self.invariant,
+    )

@@ -7,6 +7,7 @@ use Rattle.lb_traces.proofs.Ledgers.{read_last}
 use Rattle.lb_traces.proofs.Storing.{rows_fit_of}
 use Rattle.lb_traces.proofs.AddedRows.{Changed, set_pushed, integers_in, truths_in, alone_in}
 use Rattle.lb_traces.proofs.SixteenRows.{ints-of}
+use Rattle.lb_traces.proofs.IntegerCounts.{integers-limit}
 use Rattle.lb_traces.proofs.traces.TraceSet.push.Goals as goal
 
 rows_are : (c : goal.After-self-1) → c.index_mut.result.now
@@ -33,20 +34,20 @@ at_end c =
     let count : c.len-last.result ≡ length c.self.inside.row_ends.items = search rules in
     omega (arith, c.self.invariant.parts.rows.ledger.not_empty)
 
-numbers_are : (c : goal.After-self-1) → c.push_numbers.new.numbers.items
+numbers_are : (c : goal.After-self-1) → c.push_row.new.self.items
     ≡ c.self.inside.numbers.items ++ numbers_in c.args.row.now c.self.inside.columns.integers.items
 numbers_are c =
-    c.push_numbers.ensures
-    ∙ ap₂ (λ a b. a ++ numbers_in c.args.row.now b) c.in_ok-reserve-2.ensures.items
+    c.push_row.ensures
+    ∙ ap₂ (λ a b. a ++ numbers_in c.args.row.now b) c.in_ok-reserve_next.ensures.items
     c.as_slice.ensures.value
 
-pub push_numbers-requires-clause-room : goal.push_numbers-requires-clause-room
-push_numbers-requires-clause-room c =
+pub push_row-requires-clause-room : goal.push_row-requires-clause-room
+push_row-requires-clause-room c =
     let long : c.len-2.result ≡ length c.self.inside.columns.integers.items = search rules in
-    omega (arith, c.in_ok-reserve-2.ensures.ok, long, ap length c.as_slice.ensures.value)
+    omega (arith, c.in_ok-reserve_next.ensures.ok, long, ap length c.as_slice.ensures.value)
 
-pub push_numbers-requires-clause-columns : goal.push_numbers-requires-clause-columns
-push_numbers-requires-clause-columns c =
+pub push_row-requires-clause-columns : goal.push_row-requires-clause-columns
+push_row-requires-clause-columns c =
     rw c.as_slice.ensures.value
     (integers_in c.args.self.now c.self.inside.signature c.self.inside.names
     c.self.inside.numbers.items c.self.inside.words.items
@@ -55,8 +56,8 @@ push_numbers-requires-clause-columns c =
     c.self.inside.columns.places.items
     c.args.row.now c.self.view_is c.self.invariant c.requires.row)
 
-pub push_numbers-requires-clause-alone : goal.push_numbers-requires-clause-alone
-push_numbers-requires-clause-alone c =
+pub push_row-requires-clause-alone : goal.push_row-requires-clause-alone
+push_row-requires-clause-alone c =
     rw c.as_slice.ensures.value
     (alone_in c.args.self.now c.self.inside.signature c.self.inside.names
     c.self.inside.numbers.items c.self.inside.words.items
@@ -125,3 +126,13 @@ returns-clause-ok c = rw (numbers_are c, rows_are c) (changed c).view
 pub push_words-requires-clause-ints : goal.push_words-requires-clause-ints
 push_words-requires-clause-ints c =
     ints-of c.args.self.now.signature c.args.row.now c.requires.row
+
+pub reserve_next-requires : goal.reserve_next-requires
+reserve_next-requires c =
+    omega (
+      arith,
+      integers-limit c.self.inside.signature c.self.inside.names c.self.inside.numbers.items
+          c.self.inside.words.items c.self.inside.row_ends.items
+          c.self.inside.columns.integers.items c.self.inside.columns.truths.items
+          c.self.inside.columns.places.items c.self.invariant,
+    )

@@ -9,6 +9,7 @@ use Rattle.lb_traces.proofs.StoredRows.{length-stored}
 use Rattle.lb_traces.proofs.Storing.{rows_fit_of}
 use Rattle.lb_traces.proofs.AddedRows.{Changed, set_started, integers_in, truths_in, alone_in}
 use Rattle.lb_traces.proofs.SixteenRows.{ints-of}
+use Rattle.lb_traces.proofs.IntegerCounts.{integers-limit}
 use Rattle.lb_traces.proofs.traces.TraceSet.start.Goals as goal
 
 pub push-requires-clause-room : goal.push-requires-clause-room
@@ -26,9 +27,9 @@ push-requires-clause-room c =
 rows_are : (c : goal.After-push-arg-2-1) → c.index-rows.result.now
     ≡ last_place c.self.inside.row_ends.items
 rows_are c =
-    let items : c.reserve-2.new.self.items ≡ c.self.inside.row_ends.items =
-    c.in_ok-reserve-2.ensures.items in
-    let count : c.len-3.result ≡ length c.reserve-2.new.self.items = search rules in
+    let items : c.reserve.new.self.items ≡ c.self.inside.row_ends.items =
+    c.in_ok-reserve.ensures.items in
+    let count : c.len-3.result ≡ length c.reserve.new.self.items = search rules in
     read_last c.self.inside.row_ends.items c.len-3.result c.index-rows.result.now
     c.self.invariant.parts.rows.ledger (count ∙ ap length items) (rw items at c.index-rows.ensures)
 
@@ -46,21 +47,21 @@ overflow_add-rows c =
 names_are : (c : goal.After-push-2) → c.push.new.self ≡ c.self.inside.names ++ c.args.name.now ∷ []
 names_are c = c.in_ok-push.ensures.ok
 
-numbers_are : (c : goal.After-push-2) → c.push_numbers.new.numbers.items
+numbers_are : (c : goal.After-push-2) → c.push_row.new.self.items
     ≡ c.self.inside.numbers.items ++ numbers_in c.args.row.now c.self.inside.columns.integers.items
 numbers_are c =
-    c.push_numbers.ensures
-    ∙ ap₂ (λ a b. a ++ numbers_in c.args.row.now b) c.in_ok-reserve.ensures.items
+    c.push_row.ensures
+    ∙ ap₂ (λ a b. a ++ numbers_in c.args.row.now b) c.in_ok-reserve_row.ensures.items
     c.as_slice.ensures.value
 
 ends_are : (c : goal.After-push-2) → c.push-2.new.self.items ≡ c.self.inside.row_ends.items
     ++ (last_place c.self.inside.row_ends.items + 1) ∷ []
 ends_are c =
-    let items : c.reserve-2.new.self.items ≡ c.self.inside.row_ends.items =
-    c.in_ok-reserve-2.ensures.items in
+    let items : c.reserve.new.self.items ≡ c.self.inside.row_ends.items =
+    c.in_ok-reserve.ensures.items in
     let room : is_ok c.push-2.result ≡ true = c.push-2.ensures.succeeds
-    (omega (arith, c.in_ok-reserve-2.ensures.ok)) in
-    let count : c.len-3.result ≡ length c.reserve-2.new.self.items = search rules in
+    (omega (arith, c.in_ok-reserve.ensures.ok)) in
+    let count : c.len-3.result ≡ length c.reserve.new.self.items = search rules in
     let rows : c.index-rows.result.now ≡ last_place c.self.inside.row_ends.items =
     read_last c.self.inside.row_ends.items c.len-3.result c.index-rows.result.now
     c.self.invariant.parts.rows.ledger (count ∙ ap length items)
@@ -69,13 +70,13 @@ ends_are c =
     ∙ ap (λ ends. ends ++ (c.index-rows.result.now + 1) ∷ []) items
     ∙ ap (λ n. c.self.inside.row_ends.items ++ (n + 1) ∷ []) rows
 
-pub push_numbers-requires-clause-room : goal.push_numbers-requires-clause-room
-push_numbers-requires-clause-room c =
+pub push_row-requires-clause-room : goal.push_row-requires-clause-room
+push_row-requires-clause-room c =
     let long : c.len.result ≡ length c.self.inside.columns.integers.items = search rules in
-    omega (arith, c.in_ok-reserve.ensures.ok, long, ap length c.as_slice.ensures.value)
+    omega (arith, c.in_ok-reserve_row.ensures.ok, long, ap length c.as_slice.ensures.value)
 
-pub push_numbers-requires-clause-columns : goal.push_numbers-requires-clause-columns
-push_numbers-requires-clause-columns c =
+pub push_row-requires-clause-columns : goal.push_row-requires-clause-columns
+push_row-requires-clause-columns c =
     rw c.as_slice.ensures.value
     (integers_in c.args.self.now c.self.inside.signature c.self.inside.names
     c.self.inside.numbers.items c.self.inside.words.items
@@ -84,8 +85,8 @@ push_numbers-requires-clause-columns c =
     c.self.inside.columns.places.items
     c.args.row.now c.self.view_is c.self.invariant c.requires.row)
 
-pub push_numbers-requires-clause-alone : goal.push_numbers-requires-clause-alone
-push_numbers-requires-clause-alone c =
+pub push_row-requires-clause-alone : goal.push_row-requires-clause-alone
+push_row-requires-clause-alone c =
     rw c.as_slice.ensures.value
     (alone_in c.args.self.now c.self.inside.signature c.self.inside.names
     c.self.inside.numbers.items c.self.inside.words.items
@@ -98,7 +99,7 @@ pub push_words-requires-clause-room : goal.push_words-requires-clause-room
 push_words-requires-clause-room c =
     omega (
       arith,
-      c.in_ok-reserve-3.ensures.ok,
+      c.in_ok-reserve-2.ensures.ok,
       c.words_of_row.ensures,
       ap length c.as_slice-2.ensures.value,
     )
@@ -119,7 +120,7 @@ words_are c =
     subst
     (λ ws. HasPushed ws c.args.row.now c.self.inside.columns.truths.items
     c.push_words.new.words.items)
-    c.in_ok-reserve-3.ensures.items
+    c.in_ok-reserve-2.ensures.items
     (rw (← c.as_slice-2.ensures.value) c.push_words.ensures)
 
 changed :
@@ -153,3 +154,13 @@ returns-clause-ok c = rw (names_are c, numbers_are c, ends_are c) (changed c).vi
 pub push_words-requires-clause-ints : goal.push_words-requires-clause-ints
 push_words-requires-clause-ints c =
     ints-of c.args.self.now.signature c.args.row.now c.requires.row
+
+pub reserve_row-requires : goal.reserve_row-requires
+reserve_row-requires c =
+    omega (
+      arith,
+      integers-limit c.self.inside.signature c.self.inside.names c.self.inside.numbers.items
+          c.self.inside.words.items c.self.inside.row_ends.items
+          c.self.inside.columns.integers.items c.self.inside.columns.truths.items
+          c.self.inside.columns.places.items c.self.invariant,
+    )

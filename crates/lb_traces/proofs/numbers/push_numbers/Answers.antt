@@ -8,7 +8,7 @@ use Rattle.std.proofs.lemmas.List.{get_or_default, length-take-le}
 use mir.Val.{SFits}
 use Rattle.lb_traces.specs.Packed.{numbers_in}
 use Rattle.lb_traces.proofs.SixteenRows.{sixteen-more}
-use Rattle.lb_traces.proofs.traces.push_numbers.Goals as goal
+use Rattle.lb_traces.proofs.numbers.push_numbers.Goals as goal
 
 pub loop-w-init : goal.loop-w-init
 loop-w-init c = record {

@@ -1,6 +1,6 @@
 use Rattle.std.proofs.Common.{◌≡◌, ◌+◌, ◌-◌, ◌≤◌, ◌++◌, length, take, vec_len, vec_capacity}
 use Rattle.lb_traces.specs.Packed.{numbers_in}
-use Rattle.lb_traces.proofs.traces.push_numbers.Given as goal
+use Rattle.lb_traces.proofs.numbers.push_numbers.Given as goal
 
 abbrev pub invariant-loop-w : goal.invariant-loop-w
 invariant-loop-w l = record {
