@@ -87,6 +87,10 @@ impl From<LoadError> for FeedFault {
 /// A round that several workers run has the rows of all of them, but of this many at most.
 const MOST_ROUNDS: usize = 4;
 
+/// A round of so many bytes for a worker fills its lanes as it is: to pack its rows takes time, and
+/// gains nothing.
+const ROOMY: usize = 16 << 20;
+
 /// The rounds in which the traces of a program are judged, each by `workers` workers.
 fn rounds_of<'a, 'p>(
     alloc: Global,
@@ -100,7 +104,8 @@ fn rounds_of<'a, 'p>(
     ensures signature { result.signature.now ≡ program.now.signature }
     ensures program { result.runner.program.now.program.now ≡ lanes.now.program.now }
 {
-    let bytes = row_bytes(&program.signature).max(1);
+    let packs = sizes.round < ROOMY;
+    let bytes = row_bytes(&program.signature, packs).max(1);
     let size = sizes
         .round
         .saturating_mul(MOST_ROUNDS.min(workers as usize));
@@ -112,6 +117,8 @@ fn rounds_of<'a, 'p>(
             lanes: options.batch,
         },
         instants: (size / bytes).clamp(1, 4_000_000) as u32,
+        bytes: size,
+        packs,
         window: sizes.window,
         workers,
     }

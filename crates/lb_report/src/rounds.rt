@@ -34,8 +34,11 @@ pub(crate) struct Rounds<'a, 'p> {
     pub(crate) alloc: Global,
     pub(crate) signature: &'a Signature,
     pub(crate) runner: SetRunner<'a, 'p>,
-    /// How many instants a round has, about.
+    /// How many instants a round has, about, and how many bytes its rows take.
     pub(crate) instants: u32,
+    pub(crate) bytes: usize,
+    /// Whether the integers of a round take 16 bits each where most of them fit.
+    pub(crate) packs: bool,
     /// How many bytes of a text, or of a section, are in memory, unless a trace is longer.
     pub(crate) window: usize,
     /// How many workers run a round.
@@ -104,8 +107,15 @@ pub(crate) struct State {
     pub(crate) round: RoundReader,
 }
 
-/// How many bytes the row of an instant takes.
-pub(crate) fn row_bytes(signature: &Signature) -> usize {
+// How many bytes an integer of a row takes; where rows are packed, if it fits 16 bits.
+fn integer_bytes(packs: bool) -> usize
+    ensures { result ≤ 4 }
+{
+    if packs { 2 } else { 4 }
+}
+
+/// How many bytes the row of an instant takes; where rows are packed, if its integers fit 16 bits.
+pub(crate) fn row_bytes(signature: &Signature, packs: bool) -> usize {
     let mut integers = 0usize;
     for i in 0..signature.len() {
         if let Kind::Int = signature.kind(i) {
@@ -113,7 +123,7 @@ pub(crate) fn row_bytes(signature: &Signature) -> usize {
         }
     }
     let booleans = signature.len() as usize - integers;
-    4 * integers + 8 * booleans.div_ceil(64)
+    integer_bytes(packs) * integers + 8 * booleans.div_ceil(64)
 }
 
 impl Judged {
@@ -183,7 +193,8 @@ impl Rounds<'_, '_> {
         ensures { IfOk result (IsRound self.now.signature.now []) }
     {
         let cells = (self.instants as usize).saturating_mul(self.signature.len() as usize);
-        RoundReader::new(self.alloc, self.signature, cells.saturating_add(cells / 4))
+        let cells = cells.saturating_add(cells / 4);
+        RoundReader::new(self.alloc, self.signature, cells, self.packs)
     }
 
     /// A state of `judged` and an empty round.
@@ -216,7 +227,7 @@ impl Rounds<'_, '_> {
     /// Whether a round has enough traces to be run.
     pub(crate) fn is_full(&self, round: &RoundReader) -> bool {
         let set = round.set();
-        set.instants() >= self.instants || set.len() >= MOST_TRACES
+        set.instants() >= self.instants || set.bytes() >= self.bytes || set.len() >= MOST_TRACES
     }
 
     /// The verdicts of the traces of a round, in their order.

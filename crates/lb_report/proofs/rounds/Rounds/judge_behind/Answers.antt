@@ -4,7 +4,7 @@ use Rattle.std.proofs.lemmas.Result.{IfErr-weaker, IfOk-weaker}
 use Rattle.lb_trace.specs.Spelling.{Record}
 use Rattle.lb_trace.specs.declared.error.TraceError.TheVariants.{Memory}
 use Rattle.lb_pool.proofs.GoingOut.{passes_on}
-use Rattle.lb_report.specs.JudgedParts.{HasHaltedAt, IsJudgedFrom, IsPartRead}
+use Rattle.lb_report.specs.JudgedParts.{HasHaltedAt, HasRoll, IsJudgedFrom, IsPartRead}
 use Rattle.lb_report.specs.declared.rounds.Halt.{Halt}
 use Rattle.lb_report.specs.declared.rounds.Halt.TheVariants.{Refused}
 use Rattle.lb_report.proofs.QuotedTexts.{halted_at_once}
@@ -68,3 +68,10 @@ returns-in_err-extend_from_slice-clause-err g c =
     passes_on c.from_residual-in_err-extend_from_slice.result (Refused e) Is
     c.from_residual-in_err-extend_from_slice.ensures.1
     (λ rows is. halted_at_once elements table (10 ∷ c.args.text.now) rows e refl)
+
+pub returns-in_err-extend_from_slice-clause-kept :
+    goal.returns-in_err-extend_from_slice-clause-kept
+returns-in_err-extend_from_slice-clause-kept g c =
+    passes_on c.from_residual-in_err-extend_from_slice.result
+    (Refused (Memory c.in_err-extend_from_slice.field-0.0)) HasRoll
+    c.from_residual-in_err-extend_from_slice.ensures.1 tt

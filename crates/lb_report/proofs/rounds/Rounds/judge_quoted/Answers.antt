@@ -2,7 +2,10 @@
 use Rattle.std.proofs.Common.{◌∷◌, List, ap}
 use Rattle.std.proofs.lemmas.Result.{IfErr-weaker, IfOk-weaker}
 use Rattle.lb_trace.specs.Spelling.{Record}
-use Rattle.lb_report.specs.JudgedParts.{IsPartRead, IsRestHalted, IsRestJudged}
+use Rattle.lb_pool.proofs.GoingOut.{passes_on}
+use Rattle.lb_report.specs.JudgedParts.{HasRoll, IsPartRead, IsRestHalted, IsRestJudged}
+use Rattle.lb_report.specs.declared.rounds.Halt.{Halt}
+use Rattle.lb_report.specs.declared.rounds.Halt.TheVariants.{Load}
 use Rattle.lb_report.specs.Windows.{left}
 use Rattle.lb_report.proofs.QuotedReads.{rest_judged, rest_stopped}
 use Rattle.lb_report.proofs.rounds.Rounds.judge_quoted.Goals as goal
@@ -44,3 +47,24 @@ returns-clause-err g c =
     c.in_ok-fill_all.ensures.taken (ap (λ t. 10 ∷ t) c.text.ensures) c.in_ok-fill_all.ensures.over
     (given rows is))
     c.judge_behind.ensures.err
+
+pub returns-in_err-fill_all-clause-err : goal.returns-in_err-fill_all-clause-err
+returns-in_err-fill_all-clause-err g c =
+    let p = c.args.self.now.runner.program.now.program.now in
+    let elements = c.args.self.now.signature.now in
+    let table = c.args.table.now in
+    let w = c.fill_all.new.self in
+    let f = c.args.feed.now in
+    let h = c.fill_all.new.feed in
+    let old = left (g.F.Feed.coming f) (g.F.Feed.given f) (g.F.Feed.failures f) in
+    let new = left (g.F.Feed.coming h) (g.F.Feed.given h) (g.F.Feed.failures h) in
+    let Is : Halt → Type 0 = λ halt. (rows : List Record)
+    → IsPartRead p elements table rows c.args.state
+    → IsRestHalted elements table rows c.args.window.now w old new halt in
+    passes_on c.from_residual.result (Load c.in_err-fill_all.field-0.0) Is
+    c.from_residual.ensures.1 (λ rows is. c.in_err-fill_all.ensures.err)
+
+pub returns-in_err-fill_all-clause-kept : goal.returns-in_err-fill_all-clause-kept
+returns-in_err-fill_all-clause-kept g c =
+    passes_on c.from_residual.result (Load c.in_err-fill_all.field-0.0) HasRoll
+    c.from_residual.ensures.1 tt
