@@ -3,15 +3,15 @@
 ghost use Rattle.std.specs.Prelude.{◌<◌, IfOk};
 
 use crate::rounds;
-use crate::texts::{around, first_line, push_unlike};
+use crate::texts::{Said, around, first_line, push_unlike};
 use lb_check::CheckError;
 use lb_report::{BenchError, Options, Report, run_case};
 use std::alloc::{AllocError, Global};
 use std::thread::Threads;
 
 /// A refusal: its number and its word, and the place or the node that it names.
-pub fn push_refusal(said: &mut String, error: &BenchError) -> Result<(), AllocError> {
-    write!(said, "E{} {}", error.number(), error.word())?;
+pub fn push_refusal(said: &mut Said, error: &BenchError) {
+    write!(said, "E{} {}", error.number(), error.word());
     if let Some((line, column)) = error.position() {
         return write!(said, " at {line}:{column}");
     }
@@ -19,7 +19,7 @@ pub fn push_refusal(said: &mut String, error: &BenchError) -> Result<(), AllocEr
         BenchError::Check(CheckError::Type(fault)) => write!(said, " in {}", fault.node),
         BenchError::Check(CheckError::Clock(fault)) => write!(said, " in {}", fault.node),
         BenchError::Check(CheckError::Definition(fault)) => write!(said, " in {}", fault.node),
-        _ => Ok(()),
+        _ => {}
     }
 }
 
@@ -49,19 +49,19 @@ fn options(alloc: Global, observer: &str) -> Result<Options, AllocError> {
 }
 
 /// The lines of a report and the status, or the refusal.
-fn push_outcome(said: &mut String, outcome: &Result<Report, BenchError>) -> Result<(), AllocError> {
+fn push_outcome(said: &mut Said, outcome: &Result<Report, BenchError>) {
     match outcome {
         Ok(report) => {
             let text = std::str::from_utf8(report.text.as_slice()).unwrap_or("no text");
-            write!(said, "{text}status {}", report.status)
+            write!(said, "{text}status {}", report.status);
         }
         Err(error) => push_refusal(said, error),
     }
 }
 
 /// `push_outcome` for an outcome that is then dropped.
-fn push_last(said: &mut String, outcome: Result<Report, BenchError>) -> Result<(), AllocError> {
-    push_outcome(said, &outcome)
+fn push_last(said: &mut Said, outcome: Result<Report, BenchError>) {
+    push_outcome(said, &outcome);
 }
 
 /// The answer of a run on a case text.
@@ -69,9 +69,9 @@ pub fn push_run<R: AllocGlobal + Threads + Sync>(
     rt: &R,
     case: &[u8],
     options: &Options,
-    said: &mut String,
-) -> Result<(), AllocError> {
-    push_last(said, run_case(rt, case, options))
+    said: &mut Said,
+) {
+    push_last(said, run_case(rt, case, options));
 }
 
 /// The answer on a case text. An empty name is no observer.
@@ -79,10 +79,12 @@ pub fn push_answer<R: AllocGlobal + Threads + Sync>(
     rt: &R,
     case: &str,
     observer: &str,
-    said: &mut String,
-) -> Result<(), AllocError> {
-    let options = options(rt.alloc(), observer)?;
-    push_run(rt, case.as_bytes(), &options, said)
+    said: &mut Said,
+) {
+    match options(rt.alloc(), observer) {
+        Ok(options) => push_run(rt, case.as_bytes(), &options, said),
+        Err(_) => said.cut(),
+    }
 }
 
 /// Whether the cells of a line of traces can be put in quotes: the line is not empty, and has no
@@ -97,34 +99,33 @@ fn is_plain(line: &str) -> bool {
 }
 
 /// A line of traces with each cell in quotes.
-fn push_quoted_line(line: &str, quoted: &mut String) -> Result<(), AllocError> {
-    quoted.push('"')?;
+fn push_quoted_line(line: &str, quoted: &mut Said) {
+    quoted.push('"');
     for letter in line.chars() {
         if letter == ',' {
-            quoted.push_str("\",\"")?;
+            quoted.push_str("\",\"");
         } else {
-            quoted.push(letter)?;
+            quoted.push(letter);
         }
     }
     quoted.push_str("\"\n")
 }
 
 /// A line of traces, with each cell in quotes if the line is plain.
-fn push_line(line: &str, quoted: &mut String) -> Result<(), AllocError> {
+fn push_line(line: &str, quoted: &mut Said) {
     if is_plain(line) {
         return push_quoted_line(line, quoted);
     }
-    write!(quoted, "{line}\n")
+    write!(quoted, "{line}\n");
 }
 
 /// A case text with each cell of its traces in quotes.
-fn push_quoted(case: &str, quoted: &mut String) -> Result<(), AllocError> {
+fn push_quoted(case: &str, quoted: &mut Said) {
     let (source, traces) = around(case, "%traces\n");
-    write!(quoted, "{source}%traces\n")?;
+    write!(quoted, "{source}%traces\n");
     for line in traces.split('\n') {
-        push_line(line, quoted)?;
+        push_line(line, quoted);
     }
-    Ok(())
 }
 
 /// The answers on a case text that differ from `wanted`: with each cell of its traces in quotes
@@ -134,31 +135,27 @@ fn push_unlike_quoted<R: AllocGlobal + Threads + Sync>(
     case: &str,
     observer: &str,
     wanted: &str,
-    unlike: &mut String,
-) -> Result<(), AllocError> {
-    let mut quoted = String::new(rt.alloc());
-    let mut other = String::new(rt.alloc());
-    push_quoted(case, &mut quoted)?;
-    push_answer(rt, quoted.as_str(), observer, &mut other)?;
-    push_unlike(wanted, other.as_str(), 1, 0, unlike)?;
+    unlike: &mut Said,
+) {
+    let mut quoted = Said::new(rt.alloc());
+    let mut other = Said::new(rt.alloc());
+    push_quoted(case, &mut quoted);
+    unlike.cut_with(&quoted);
+    push_answer(rt, quoted.as_str(), observer, &mut other);
+    push_unlike(wanted, &other, 1, 0, unlike);
     if observer.is_empty() {
-        rounds::push_case_in_rounds(rt, case, unlike)?;
-        rounds::push_case_in_rounds(rt, quoted.as_str(), unlike)?;
+        rounds::push_case_in_rounds(rt, case, unlike);
+        rounds::push_case_in_rounds(rt, quoted.as_str(), unlike);
     }
-    Ok(())
 }
 
 /// The answer on a case text behind its first line, which may name an observer; then the answers
 /// that differ with each cell in quotes, or in rounds.
-pub fn push_case<R: AllocGlobal + Threads + Sync>(
-    rt: &R,
-    asked: &str,
-    said: &mut String,
-) -> Result<(), AllocError> {
+pub fn push_case<R: AllocGlobal + Threads + Sync>(rt: &R, asked: &str, said: &mut Said) {
     let (observer, case) = first_line(asked);
     let observer = observer.trim();
-    push_answer(rt, case, observer, said)?;
-    let mut unlike = String::new(rt.alloc());
-    push_unlike_quoted(rt, case, observer, said.as_str(), &mut unlike)?;
-    said.push_str(unlike.as_str())
+    push_answer(rt, case, observer, said);
+    let mut unlike = Said::new(rt.alloc());
+    push_unlike_quoted(rt, case, observer, said.as_str(), &mut unlike);
+    said.push_said(&unlike);
 }

@@ -7,7 +7,7 @@ ghost use Rattle.lb_sim.specs.InputRows.{HaveInstant};
 
 use crate::pool::push_case;
 use crate::sources::checked_of;
-use crate::texts::{around, expect, first_line, is_same};
+use crate::texts::{Said, around, expect, first_line, is_same};
 use crate::{forms, random, runs};
 use lb_check::Verdict;
 use lb_expand::expand;
@@ -48,7 +48,7 @@ fn parts(verdict: Verdict) -> (u32, u32) {
 }
 
 // The words of a verdict.
-fn push_verdict(verdict: Verdict, said: &mut String) -> Result<(), AllocError> {
+fn push_verdict(verdict: Verdict, said: &mut Said) {
     match verdict {
         Verdict::Passed => said.push_str("passed"),
         Verdict::Fault(t) => write!(said, "fault {t}"),
@@ -81,16 +81,19 @@ fn push_judged(
     set: &TraceSet,
     member: u32,
     verdict: Verdict,
-    said: &mut String,
-) -> Result<(), AllocError>
+    said: &mut Said,
+)
     requires { member < length set.now.traces }
 {
-    write!(said, "{} ", set.name(member))?;
-    push_verdict(verdict, said)?;
-    if parts(verdict) != parts(eval_trace(alloc, ordered, set, member)?) {
-        said.push_str(", and not alone")?;
+    said.push_str(set.name(member));
+    said.push(' ');
+    push_verdict(verdict, said);
+    match eval_trace(alloc, ordered, set, member) {
+        Ok(alone) if parts(verdict) == parts(alone) => {}
+        Ok(_) => said.push_str(", and not alone"),
+        Err(_) => said.cut(),
     }
-    said.push('\n')
+    said.push('\n');
 }
 
 // The verdict of each member in its lane, if the members are traces of `set`.
@@ -100,19 +103,20 @@ fn push_members(
     program: &LaneProgram<'_>,
     set: &TraceSet,
     members: &[u32],
-    said: &mut String,
-) -> Result<(), AllocError> {
+    said: &mut Said,
+) {
     if !are_members(set, members) {
         return said.push_str("no members");
     }
-    let done = run_batch(alloc, program, set, members)?;
+    let Ok(done) = run_batch(alloc, program, set, members) else {
+        return said.cut();
+    };
     if done.members().len() != members.len() || done.verdicts().len() != members.len() {
         return said.push_str("another count");
     }
     for i in 0..members.len() {
-        push_judged(alloc, ordered, set, members[i], done.verdicts()[i], said)?;
+        push_judged(alloc, ordered, set, members[i], done.verdicts()[i], said);
     }
-    Ok(())
 }
 
 // `push_members` where about three members run in each lane, one after the other.
@@ -122,17 +126,18 @@ fn push_queue(
     program: &LaneProgram<'_>,
     set: &TraceSet,
     members: &[u32],
-    said: &mut String,
+    said: &mut Said,
 ) -> Result<(), AllocError> {
     if !are_members(set, members) {
-        return said.push_str("no members");
+        said.push_str("no members");
+        return Ok(());
     }
     let mut verdicts = vec![in alloc; Verdict::Passed; members.len()]?;
     let lanes = members.len() as u32 / 3 + 1;
     let room = BatchRoom::new(alloc, program)?;
     run_queue_in(room, program, set, members, lanes, verdicts.as_mut_slice());
     for i in 0..members.len() {
-        push_judged(alloc, ordered, set, members[i], verdicts[i], said)?;
+        push_judged(alloc, ordered, set, members[i], verdicts[i], said);
     }
     Ok(())
 }
@@ -143,7 +148,7 @@ fn push_all(
     ordered: &Ordered,
     program: &LaneProgram<'_>,
     set: &TraceSet,
-    said: &mut String,
+    said: &mut Said,
 ) -> Result<(), AllocError> {
     let mut members = Vec::new(alloc);
     for k in 0..set.len() {
@@ -172,13 +177,14 @@ fn push_batches(
     program: &LaneProgram<'_>,
     set: &TraceSet,
     batches: &str,
-    said: &mut String,
-) -> Result<(), AllocError> {
+    said: &mut Said,
+) {
     for batch in batches.split(';') {
-        let numbers = numbers_of(alloc, batch)?;
-        push_members(alloc, ordered, program, set, numbers.as_slice(), said)?;
+        match &numbers_of(alloc, batch) {
+            Ok(numbers) => push_members(alloc, ordered, program, set, numbers, said),
+            Err(_) => said.cut(),
+        }
     }
-    Ok(())
 }
 
 // ## Step by step
@@ -212,19 +218,19 @@ fn have_instant(set: &TraceSet, members: &[u32], t: u32, live: Plane) -> bool
 }
 
 // The lanes that are not active, each with its verdict, and the active ones that have not passed.
-fn push_lanes(run: &BatchRun<'_>, count: u32, said: &mut String) -> Result<(), AllocError>
+fn push_lanes(run: &BatchRun<'_>, count: u32, said: &mut Said)
     requires { count ≤ 64 }
 {
     for lane in 0..count {
         let verdict = run.verdict(lane);
         if !run.active().get(lane) {
-            write!(said, " {lane} ")?;
-            push_verdict(verdict, said)?;
+            write!(said, " {lane} ");
+            push_verdict(verdict, said);
         } else if parts(verdict).0 != 0 {
-            write!(said, " {lane} active")?;
+            write!(said, " {lane} active");
         }
     }
-    said.push('\n')
+    said.push('\n');
 }
 
 // Runs one instant in the live lanes whose members have it; then the lanes after it.
@@ -233,8 +239,8 @@ fn push_step(
     inputs: &mut Inputs,
     set: &TraceSet,
     members: &[u32],
-    said: &mut String,
-) -> Result<(), AllocError>
+    said: &mut Said,
+)
     requires members { All (λ k. k < length set.now.traces) members.now }
     requires few { length members.now ≤ 64 }
     requires kinds { kinds_of set.now.signature ≡ inputs.old.columns.kinds.items }
@@ -249,8 +255,8 @@ fn push_step(
     }
     inputs.load(set, members, t, live);
     run.step(inputs, live);
-    write!(said, "{t}:")?;
-    push_lanes(run, members.len() as u32, said)
+    write!(said, "{t}:");
+    push_lanes(run, members.len() as u32, said);
 }
 
 // The lanes before the first instant, and after each of ten instants.
@@ -259,19 +265,18 @@ fn push_steps(
     inputs: &mut Inputs,
     set: &TraceSet,
     members: &[u32],
-    said: &mut String,
-) -> Result<(), AllocError>
+    said: &mut Said,
+)
     requires members { All (λ k. k < length set.now.traces) members.now }
     requires few { length members.now ≤ 64 }
     requires kinds { kinds_of set.now.signature ≡ inputs.old.columns.kinds.items }
     requires inputs { inputs.old.columns.kinds.items ≡ (flat_of run.old).inputs }
 {
-    said.push_str("start:")?;
-    push_lanes(run, members.len() as u32, said)?;
+    said.push_str("start:");
+    push_lanes(run, members.len() as u32, said);
     for _ in 0..10 {
-        push_step(run, inputs, set, members, said)?;
+        push_step(run, inputs, set, members, said);
     }
-    Ok(())
 }
 
 // `push_steps` for all traces of a set, if they are at most 64 and have the inputs of the program.
@@ -279,7 +284,7 @@ fn push_run(
     alloc: Global,
     program: &LaneProgram<'_>,
     set: &TraceSet,
-    said: &mut String,
+    said: &mut Said,
 ) -> Result<(), AllocError> {
     let mut members = Vec::new(alloc);
     for k in 0..set.len() {
@@ -288,10 +293,12 @@ fn push_run(
     let members = members.as_slice();
     let mut inputs = Inputs::new(alloc, program)?;
     if !are_members(set, members) || !has_kinds(set.signature(), inputs.columns.kinds.as_slice()) {
-        return said.push_str("no run");
+        said.push_str("no run");
+        return Ok(());
     }
     let mut run = BatchRun::new(alloc, program, members.len() as u32)?;
-    push_steps(&mut run, &mut inputs, set, members, said)
+    push_steps(&mut run, &mut inputs, set, members, said);
+    Ok(())
 }
 
 // ## Cases
@@ -301,13 +308,16 @@ fn push_on_set(
     ordered: &Ordered,
     set: &TraceSet,
     question: Question<'_>,
-    said: &mut String,
+    said: &mut Said,
 ) -> Result<(), AllocError> {
-    let program = compile(alloc, ordered)?;
+    let program = &compile(alloc, ordered)?;
     match question {
-        Question::All => push_all(alloc, ordered, &program, set, said),
-        Question::Members(batches) => { push_batches(alloc, ordered, &program, set, batches, said) }
-        Question::Steps => push_run(alloc, &program, set, said),
+        Question::All => push_all(alloc, ordered, program, set, said),
+        Question::Members(batches) => {
+            push_batches(alloc, ordered, program, set, batches, said);
+            Ok(())
+        }
+        Question::Steps => push_run(alloc, program, set, said),
     }
 }
 
@@ -326,28 +336,36 @@ fn push_on_case(
     case: &str,
     observer: &str,
     question: Question<'_>,
-    said: &mut String,
-) -> Result<(), AllocError> {
+    said: &mut Said,
+) {
     match &prepared(alloc, case, observer) {
-        Some((ordered, set)) => push_on_set(alloc, ordered, set, question, said),
+        Some((ordered, set)) => {
+            if push_on_set(alloc, ordered, set, question, said).is_err() {
+                said.cut();
+            }
+        }
         None => said.push_str("refused"),
     }
 }
 
-/// The answer on a case with counted records. Its first line has the members of some batches,
-/// `steps`, or nothing.
-pub fn push_lanes_of(alloc: Global, asked: &str, said: &mut String) -> Result<(), AllocError> {
+/// The question of a line: the members of some batches, `steps`, or nothing.
+fn question_of(line: &str) -> Question<'_> {
+    if line.is_empty() {
+        return Question::All;
+    }
+    if is_same(line, "steps") {
+        return Question::Steps;
+    }
+    Question::Members(line)
+}
+
+/// The answer on a case with counted records, to the question of its first line.
+pub fn push_lanes_of(alloc: Global, asked: &str, said: &mut Said) {
     let (line, short) = first_line(asked);
-    let mut case = String::new(alloc);
-    push_case(&mut case, short)?;
-    let question = if line.is_empty() {
-        Question::All
-    } else if is_same(line, "steps") {
-        Question::Steps
-    } else {
-        Question::Members(line)
-    };
-    push_on_case(alloc, case.as_str(), "", question, said)
+    let mut case = Said::new(alloc);
+    push_case(&mut case, short);
+    said.cut_with(&case);
+    push_on_case(alloc, case.as_str(), "", question_of(line), said);
 }
 
 // ## Rows
@@ -592,41 +610,40 @@ start:
 // ## The programs of the other tables
 
 // Whether each trace of a case has the verdict of its report in its lane, and alone.
-fn is_same_in_lanes(alloc: Global, row: &str, said: &mut String) -> Result<bool, AllocError> {
+fn is_same_in_lanes(alloc: Global, row: &str, said: &mut Said) -> bool {
     let (asked, wanted) = around(row, "%answer\n");
     let (observer, case) = first_line(asked);
     said.clear();
-    push_on_case(alloc, case, observer.trim(), Question::All, said)?;
-    Ok(match wanted.strip_prefix(said.as_str()) {
+    push_on_case(alloc, case, observer.trim(), Question::All, said);
+    match wanted.strip_prefix(said.as_str()) {
         Some(rest) => rest.starts_with("total "),
         None => is_same(said.as_str(), "refused") && wanted.starts_with("E"),
-    })
+    }
 }
 
-// The first of some cases that has other verdicts in lanes; `said` has these verdicts then.
-fn other_in_lanes<'a>(
-    alloc: Global,
-    rows: &'a str,
-    said: &mut String,
-) -> Result<Option<&'a str>, AllocError> {
+// Adds the first of some cases that has other verdicts in lanes, behind these. Returns whether
+// there is none.
+fn are_same_in_lanes(alloc: Global, rows: &str, said: &mut Said) -> bool {
     for row in rows.split("\n%case") {
-        if !is_same_in_lanes(alloc, row, said)? {
-            return Ok(Some(row));
+        if !is_same_in_lanes(alloc, row, said) {
+            write!(said, ", in lanes: {row}");
+            return false;
         }
     }
-    Ok(None)
+    true
 }
 
 // The first of all cases that has other verdicts in lanes, behind these. Nothing where there is
 // none.
-fn first_in_lanes(alloc: Global) -> Result<String, AllocError> {
-    let mut said = String::new(alloc);
+fn first_in_lanes(alloc: Global) -> Said {
+    let mut said = Said::new(alloc);
     for rows in [runs::REPORTS, forms::FORMS, random::PROGRAMS] {
-        if let Some(row) = other_in_lanes(alloc, rows, &mut said)? {
-            return format!(in alloc; "{said}, in lanes: {row}");
+        if !are_same_in_lanes(alloc, rows, &mut said) {
+            return said;
         }
     }
-    Ok(String::new(alloc))
+    said.clear();
+    said
 }
 
 /// Each program of the whole language has the verdicts of its report in lanes too.

@@ -5,14 +5,14 @@
 //! Places are lines and columns: first that of the statement or declaration, then that of the
 //! fault, and in brackets that of a sign.
 
-use crate::texts::{around, last_line, named};
+use crate::texts::{Said, around, last_line, named};
 use lb_check::{
     CheckError, Checked, ClockFault, DefinitionFault, Part, SourceClock, SourceType, TypeFault,
     TypeRule, check,
 };
-use lb_static::{CallPath, Start, elaborate};
+use lb_static::{CallPath, CallStep, Start, elaborate};
 use lb_syntax::{Source, line_column, parse};
-use std::alloc::{AllocError, Global};
+use std::alloc::Global;
 
 /// Sources, each with its node under test, and perhaps an observer, in the last line.
 pub const CASES: &str = "node main(x: int) returns (ok: bool); let ok = x + true > 0; tel
@@ -177,70 +177,68 @@ node main(x: int) returns (ok: bool); let ok = x > 0; tel
 main => accepted";
 
 /// A place as line and column.
-fn push_place(text: &str, offset: u32, said: &mut String) -> Result<(), AllocError> {
+fn push_place(text: &str, offset: u32, said: &mut Said) {
     if text.len() >= u32::MAX as usize {
         return said.push_str(" nowhere");
     }
     let place = line_column(text.as_bytes(), offset);
-    write!(said, " {}:{}", place.line, place.column)
+    write!(said, " {}:{}", place.line, place.column);
 }
 
 /// The node and its part, with the place of the part.
-fn push_part(
-    text: &str,
-    node: &str,
-    part: Part,
-    offset: u32,
-    said: &mut String,
-) -> Result<(), AllocError> {
+fn push_part(text: &str, node: &str, part: Part, offset: u32, said: &mut Said) {
+    said.push_str(node);
     match part {
-        Part::Variable(variable) => write!(said, "{node} variable {}", variable.0)?,
-        Part::Statement(place) => write!(said, "{node} statement {place}")?,
+        Part::Variable(variable) => write!(said, " variable {}", variable.0),
+        Part::Statement(place) => write!(said, " statement {place}"),
     }
-    push_place(text, offset, said)
+    push_place(text, offset, said);
 }
 
 /// The place of a sign in brackets, if there is one.
-fn push_sign(text: &str, sign: Option<u32>, said: &mut String) -> Result<(), AllocError> {
+fn push_sign(text: &str, sign: Option<u32>, said: &mut Said) {
     if let Some(offset) = sign {
-        said.push_str(" [")?;
-        push_place(text, offset, said)?;
-        said.push_str(" ]")?;
+        said.push_str(" [");
+        push_place(text, offset, said);
+        said.push_str(" ]");
     }
-    Ok(())
+}
+
+/// `, two 4:5 #1`
+fn push_step(text: &str, step: &CallStep, said: &mut Said) {
+    said.push_str(", ");
+    said.push_str(step.node.as_str());
+    push_place(text, step.offset, said);
+    if let Some(index) = step.index {
+        write!(said, " #{index}");
+    }
 }
 
 /// ` by main`, or the path from there: ` by main, two 4:5, add 2:9 #1`.
-fn push_path(text: &str, path: &CallPath, said: &mut String) -> Result<(), AllocError> {
-    let start = match path.start {
-        Start::UnderTest => "by",
-        Start::Observer => "by observer",
-    };
-    write!(said, " {start} {}", path.node.as_str())?;
+fn push_path(text: &str, path: &CallPath, said: &mut Said) {
+    said.push_str(match path.start {
+        Start::UnderTest => " by ",
+        Start::Observer => " by observer ",
+    });
+    said.push_str(path.node.as_str());
     for step in &path.steps {
-        write!(said, ", {}", step.node.as_str())?;
-        push_place(text, step.offset, said)?;
-        if let Some(index) = step.index {
-            write!(said, " #{index}")?;
-        }
+        push_step(text, step, said);
     }
-    Ok(())
 }
 
 /// The types that were found.
-fn push_types(types: &[SourceType], said: &mut String) -> Result<(), AllocError> {
-    said.push_str(" found")?;
+fn push_types(types: &[SourceType], said: &mut Said) {
+    said.push_str(" found");
     for found in types {
-        write!(said, " {found}")?;
+        write!(said, " {found}");
     }
-    Ok(())
 }
 
 /// The rule of types that is broken; for a wrong count, the number found and the number wanted.
-fn push_rule(rule: TypeRule, said: &mut String) -> Result<(), AllocError> {
+fn push_rule(rule: TypeRule, said: &mut Said) {
     match rule {
         TypeRule::ArgumentCount { found, wanted } => {
-            write!(said, ": ArgumentCount {found} for {wanted}")
+            write!(said, ": ArgumentCount {found} for {wanted}");
         }
         TypeRule::LeftCount { found, wanted } => write!(said, ": LeftCount {found} for {wanted}"),
         other => write!(said, ": {other:?}"),
@@ -248,80 +246,73 @@ fn push_rule(rule: TypeRule, said: &mut String) -> Result<(), AllocError> {
 }
 
 /// The fault against a rule of types.
-fn push_type(text: &str, fault: &TypeFault, said: &mut String) -> Result<(), AllocError> {
+fn push_type(text: &str, fault: &TypeFault, said: &mut Said) {
     push_part(
         text,
         fault.node.as_str(),
         fault.part,
         fault.part_offset,
         said,
-    )?;
-    push_rule(fault.rule, said)?;
-    push_place(text, fault.offset, said)?;
-    push_sign(text, fault.sign_offset, said)?;
-    push_types(&fault.found, said)?;
+    );
+    push_rule(fault.rule, said);
+    push_place(text, fault.offset, said);
+    push_sign(text, fault.sign_offset, said);
+    push_types(&fault.found, said);
     if let Some(wanted) = &fault.wanted {
-        write!(said, " wanted {wanted}")?;
+        write!(said, " wanted {wanted}");
     }
-    push_path(text, &fault.path, said)
+    push_path(text, &fault.path, said);
 }
 
 /// A clock with a word before it, if there is one.
-fn push_clock(
-    word: &str,
-    clock: &Option<SourceClock>,
-    said: &mut String,
-) -> Result<(), AllocError> {
+fn push_clock(word: &str, clock: &Option<SourceClock>, said: &mut Said) {
     match clock {
         Some(clock) => write!(said, " {word} {clock}"),
-        None => Ok(()),
+        None => {}
     }
 }
 
 /// The fault against a rule of clocks.
-fn push_clocks(text: &str, fault: &ClockFault, said: &mut String) -> Result<(), AllocError> {
+fn push_clocks(text: &str, fault: &ClockFault, said: &mut Said) {
     push_part(
         text,
         fault.node.as_str(),
         fault.part,
         fault.part_offset,
         said,
-    )?;
-    write!(said, ": {:?}", fault.rule)?;
-    push_place(text, fault.offset, said)?;
-    push_sign(text, fault.sign_offset, said)?;
-    push_clock("found", &fault.found, said)?;
-    push_clock("wanted", &fault.wanted, said)?;
-    push_path(text, &fault.path, said)
+    );
+    write!(said, ": {:?}", fault.rule);
+    push_place(text, fault.offset, said);
+    push_sign(text, fault.sign_offset, said);
+    push_clock("found", &fault.found, said);
+    push_clock("wanted", &fault.wanted, said);
+    push_path(text, &fault.path, said);
 }
 
 /// The fault against a rule of definitions.
-fn push_definition(
-    text: &str,
-    fault: &DefinitionFault,
-    said: &mut String,
-) -> Result<(), AllocError> {
+fn push_definition(text: &str, fault: &DefinitionFault, said: &mut Said) {
     push_part(
         text,
         fault.node.as_str(),
         fault.part,
         fault.part_offset,
         said,
-    )?;
-    write!(said, ": {:?}", fault.rule)?;
+    );
+    write!(said, ": {:?}", fault.rule);
     if !fault.name.is_empty() {
-        write!(said, " {}", fault.name.as_str())?;
+        said.push(' ');
+        said.push_str(fault.name.as_str());
     }
-    push_place(text, fault.offset, said)?;
+    push_place(text, fault.offset, said);
     for definition in &fault.definitions {
-        said.push_str(" defined")?;
-        push_place(text, *definition, said)?;
+        said.push_str(" defined");
+        push_place(text, *definition, said);
     }
-    push_path(text, &fault.path, said)
+    push_path(text, &fault.path, said);
 }
 
 /// The cause of a refusal.
-fn push_error(text: &str, error: &CheckError, said: &mut String) -> Result<(), AllocError> {
+fn push_error(text: &str, error: &CheckError, said: &mut Said) {
     match error {
         CheckError::Memory => said.push_str("no memory"),
         CheckError::Type(fault) => push_type(text, fault, said),
@@ -331,11 +322,7 @@ fn push_error(text: &str, error: &CheckError, said: &mut String) -> Result<(), A
 }
 
 /// `accepted`, or the cause of the refusal.
-fn push_checked(
-    text: &str,
-    checked: &Result<Checked, CheckError>,
-    said: &mut String,
-) -> Result<(), AllocError> {
+fn push_checked(text: &str, checked: &Result<Checked, CheckError>, said: &mut Said) {
     match checked {
         Ok(_) => said.push_str("accepted"),
         Err(error) => push_error(text, error, said),
@@ -349,16 +336,16 @@ fn push_cause(
     tree: &Source,
     node: &str,
     observer: &str,
-    said: &mut String,
-) -> Result<(), AllocError> {
+    said: &mut Said,
+) {
     let Ok(elab) = elaborate(alloc, tree, node, named(observer)) else {
         return said.push_str("no program");
     };
-    push_checked(text, &check(alloc, elab), said)
+    push_checked(text, &check(alloc, elab), said);
 }
 
 /// The answer on a source. The last line is no part of the source.
-pub fn push_answer(alloc: Global, asked: &str, said: &mut String) -> Result<(), AllocError> {
+pub fn push_answer(alloc: Global, asked: &str, said: &mut Said) {
     let (text, last) = last_line(asked);
     let (node, observer) = around(last, ",");
     match &parse(alloc, text.as_bytes()) {

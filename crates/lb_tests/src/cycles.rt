@@ -4,10 +4,11 @@
 //! cycle needs the next one at the same instant, and the last one the first.
 
 use crate::sources::checked_of;
+use crate::texts::Said;
 use lb_expand::expand;
 use lb_flat::{ElementId, OrderError, order};
 use lb_syntax::parse;
-use std::alloc::{AllocError, Global};
+use std::alloc::Global;
 
 // The cycle of a source; none if it has an order or is refused sooner.
 fn cycle_of(alloc: Global, source: &str) -> Option<Vec<ElementId>> {
@@ -19,8 +20,8 @@ fn cycle_of(alloc: Global, source: &str) -> Option<Vec<ElementId>> {
     }
 }
 
-// The place of the least number of a cycle.
-fn least_of(cycle: &[ElementId]) -> usize {
+/// The place of the least number of a cycle.
+pub fn least_of(cycle: &[ElementId]) -> usize {
     let mut least = 0;
     for (k, element) in cycle.iter().enumerate() {
         if cycle.get(least).is_some_and(|other| element.0 < other.0) {
@@ -31,17 +32,16 @@ fn least_of(cycle: &[ElementId]) -> usize {
 }
 
 // A cycle from its least number on.
-fn push_cycle(cycle: &[ElementId], said: &mut String) -> Result<(), AllocError> {
+fn push_cycle(cycle: &[ElementId], said: &mut Said) {
     let least = least_of(cycle);
-    said.push_str("cycle")?;
+    said.push_str("cycle");
     for element in cycle.iter().skip(least).chain(cycle.iter().take(least)) {
-        write!(said, " {}", element.0)?;
+        write!(said, " {}", element.0);
     }
-    Ok(())
 }
 
 /// The cycle of a source.
-pub fn push_answer(alloc: Global, asked: &str, said: &mut String) -> Result<(), AllocError> {
+pub fn push_answer(alloc: Global, asked: &str, said: &mut Said) {
     match &cycle_of(alloc, asked) {
         Some(cycle) => push_cycle(cycle.as_slice(), said),
         None => said.push_str("no cycle"),

@@ -5,111 +5,104 @@
 //! its instance: the node under test or the observer, and each call from there. Each element needs
 //! the next one; the first has the least number.
 
+use crate::cycles::least_of;
 use crate::sources::checked_of;
+use crate::texts::Said;
 use lb_check::Checked;
-use lb_expand::{FlatError, expand, with_places};
-use lb_flat::{Cycle, OrderError, order};
-use lb_static::CallPath;
+use lb_expand::{FlatError, SizeFault, expand, with_places};
+use lb_flat::{Cycle, Flat, OrderError, order};
+use lb_static::{CallPath, CallStep};
 use lb_syntax::{line_column, parse};
-use std::alloc::{AllocError, Global};
+use std::alloc::Global;
 
 /// ` at 3:5`: the line and the column of an offset.
-fn push_place(text: &str, offset: u32, said: &mut String) -> Result<(), AllocError> {
+fn push_place(text: &str, offset: u32, said: &mut Said) {
     let bytes = text.as_bytes();
     if bytes.len() >= u32::MAX as usize {
         return said.push_str(" in a long text");
     }
     let place = line_column(bytes, offset);
-    write!(said, " at {}:{}", place.line, place.column)
+    write!(said, " at {}:{}", place.line, place.column);
+}
+
+/// ` > cell[1] at 3:5`
+fn push_step(text: &str, step: &CallStep, said: &mut Said) {
+    said.push_str(" > ");
+    said.push_str(step.node.as_str());
+    if let Some(index) = step.index {
+        write!(said, "[{index}]");
+    }
+    push_place(text, step.offset, said);
 }
 
 /// ` in main > cell[1] at 3:5`
-fn push_path(text: &str, path: &CallPath, said: &mut String) -> Result<(), AllocError> {
-    write!(said, " in {}", path.node)?;
+fn push_path(text: &str, path: &CallPath, said: &mut Said) {
+    said.push_str(" in ");
+    said.push_str(path.node.as_str());
     for step in &path.steps {
-        write!(said, " > {}", step.node)?;
-        if let Some(index) = step.index {
-            write!(said, "[{index}]")?;
-        }
-        push_place(text, step.offset, said)?;
+        push_step(text, step, said);
     }
-    Ok(())
 }
 
 /// Element `k` of a cycle, with the place of its definition and the path to its instance.
-fn push_element(text: &str, cycle: &Cycle, k: usize, said: &mut String) -> Result<(), AllocError> {
+fn push_element(text: &str, cycle: &Cycle, k: usize, said: &mut Said) {
     let Some(place) = cycle.places.get(k) else {
         return said.push_str("\n no place");
     };
-    write!(said, "\n {}", place.name)?;
-    push_place(text, place.offset, said)?;
+    write!(said, "\n {}", place.name);
+    push_place(text, place.offset, said);
     match cycle.instances.get(place.instance) {
         Some(path) => push_path(text, path, said),
         None => said.push_str(" in no instance"),
     }
 }
 
-/// The place of the least number of a cycle.
-fn least_of(cycle: &Cycle) -> usize {
-    let mut least = 0;
-    for (k, element) in cycle.elements.iter().enumerate() {
-        if cycle
-            .elements
-            .get(least)
-            .is_some_and(|other| element.0 < other.0)
-        {
-            least = k;
-        }
-    }
-    least
-}
-
-fn push_cycle(text: &str, cycle: &Cycle, said: &mut String) -> Result<(), AllocError> {
-    let least = least_of(cycle);
+fn push_cycle(text: &str, cycle: &Cycle, said: &mut Said) {
+    let least = least_of(&cycle.elements);
     for k in least..cycle.elements.len() {
-        push_element(text, cycle, k, said)?;
+        push_element(text, cycle, k, said);
     }
     for k in 0..least {
-        push_element(text, cycle, k, said)?;
+        push_element(text, cycle, k, said);
     }
-    Ok(())
 }
 
-fn push_order(
-    alloc: Global,
-    text: &str,
-    checked: &Checked,
-    said: &mut String,
-) -> Result<(), AllocError> {
-    let flat = match expand(alloc, checked) {
-        Ok(flat) => flat,
-        Err(FlatError::Large(fault)) => {
-            let least = if fault.is_least { "at least " } else { "" };
-            return write!(said, "\n size {least}{} of {}", fault.size, fault.limit);
-        }
-        Err(FlatError::Memory) => return said.push_str("\n memory"),
-    };
+/// The cause for which a program has no order.
+fn push_unordered(text: &str, cause: &OrderError, said: &mut Said) {
+    match cause {
+        OrderError::Cycle(cycle) => push_cycle(text, cycle, said),
+        OrderError::Memory => said.push_str("\n memory"),
+    }
+}
+
+fn push_order(alloc: Global, text: &str, checked: &Checked, flat: Flat, said: &mut Said) {
     match order(alloc, flat) {
         Ok(_) => said.push_str("\n in order"),
-        Err(cause) => match with_places(alloc, checked, cause) {
-            OrderError::Cycle(cycle) => push_cycle(text, &cycle, said),
-            OrderError::Memory => said.push_str("\n memory"),
-        },
+        Err(cause) => push_unordered(text, &with_places(alloc, checked, cause), said),
+    }
+}
+
+/// The size of a program that is too large.
+fn push_large(fault: &SizeFault, said: &mut Said) {
+    let least = if fault.is_least { "at least " } else { "" };
+    write!(said, "\n size {least}{} of {}", fault.size, fault.limit);
+}
+
+fn push_expanded(alloc: Global, text: &str, checked: &Checked, said: &mut Said) {
+    match expand(alloc, checked) {
+        Ok(flat) => push_order(alloc, text, checked, flat, said),
+        Err(FlatError::Large(fault)) => push_large(&fault, said),
+        Err(FlatError::Memory) => said.push_str("\n memory"),
     }
 }
 
 /// The cause for which a source is refused, with `observer`; an empty name is no observer.
-pub fn push_cause(
-    alloc: Global,
-    observer: &str,
-    text: &str,
-    said: &mut String,
-) -> Result<(), AllocError> {
+pub fn push_cause(alloc: Global, observer: &str, text: &str, said: &mut Said) {
     let Ok(tree) = &parse(alloc, text.as_bytes()) else {
         return said.push_str("\n refused before");
     };
     match &checked_of(alloc, tree, observer) {
-        Some(checked) => push_order(alloc, text, checked, said),
+        Some(checked) => push_expanded(alloc, text, checked, said),
         None => said.push_str("\n refused before"),
     }
 }

@@ -5,11 +5,10 @@ ghost use Rattle.std.specs.Prelude.{◌<◌};
 use crate::answers::spread;
 use crate::pool::{Hold, LANES, SPREADS, TURNS, first_case, push_case};
 use crate::tables::write_out;
-use crate::texts::{around, expect, push_unlike};
+use crate::texts::{Said, around, expect, push_unlike};
 use lb_report::{
     FollowFault, Gate, NoGate, Options, Sink, TextPlaces, Writer, follow, follow_file, split_case,
 };
-use std::alloc::AllocError;
 use std::hint::spin_loop;
 use std::io::{ErrorKind, Write};
 use std::sync::Wait;
@@ -22,24 +21,21 @@ use std::time::Clock;
 
 // Writes the case of a row with counted records, and the answer of its live report: `whole` and the
 // report.
-fn write_case(
-    short: &str,
-    row: &mut String,
-    case: &mut String,
-    report: &mut String,
-) -> Result<(), AllocError> {
+fn write_case(short: &str, row: &mut Said, case: &mut Said, report: &mut Said) {
     let (asked, answer) = around(short, "%answer\n");
-    let _ = write_out(row, asked)?;
+    let _ = write_out(row, asked);
     case.clear();
-    push_case(case, row.as_str())?;
-    let _ = write_out(row, answer)?;
+    push_case(case, row.as_str());
+    let _ = write_out(row, answer);
     report.clear();
-    report.push_str("whole:\n")?;
-    report.push_str(around(row.as_str(), "status ").0)
+    report.push_str("whole:\n");
+    report.push_str(around(row.as_str(), "status ").0);
+    report.cut_with(case);
+    report.cut_with(row);
 }
 
 // The end of a live report: `whole`, the number of a refusal, or the cause of a stop.
-fn push_end(answer: &Result<(), FollowFault>, said: &mut String) -> Result<(), AllocError> {
+fn push_end(answer: &Result<(), FollowFault>, said: &mut Said) {
     match answer {
         Ok(()) => said.push_str("whole"),
         Err(FollowFault::Refused(cause)) => write!(said, "E{}", cause.number()),
@@ -48,8 +44,8 @@ fn push_end(answer: &Result<(), FollowFault>, said: &mut String) -> Result<(), A
 }
 
 // `push_end` for an answer that is then dropped.
-fn push_last(answer: Result<(), FollowFault>, said: &mut String) -> Result<(), AllocError> {
-    push_end(&answer, said)
+fn push_last(answer: Result<(), FollowFault>, said: &mut Said) {
+    push_end(&answer, said);
 }
 
 // The end of a live report on a case, written to `sink` by workers that pass `gate`.
@@ -59,8 +55,8 @@ fn push_followed<R, G, S>(
     options: &Options,
     gate: &G,
     sink: &mut S,
-    said: &mut String,
-) -> Result<(), AllocError>
+    said: &mut Said,
+)
 where
     R: AllocGlobal + Threads + Wait + Clock + Sync,
     G: Gate + Sync,
@@ -69,7 +65,7 @@ where
     requires failures { S.failures sink.old < u64.MAX }
 {
     let (source, traces) = split_case(case.as_bytes());
-    push_last(follow(rt, source, traces, options, gate, sink), said)
+    push_last(follow(rt, source, traces, options, gate, sink), said);
 }
 
 // The end of a live report, and the bytes that went out.
@@ -77,8 +73,8 @@ fn push_live<R: AllocGlobal + Threads + Wait + Clock + Sync>(
     rt: &R,
     case: &str,
     options: &Options,
-    said: &mut String,
-) -> Result<(), AllocError>
+    said: &mut Said,
+)
     requires { 0 < options.now.workers }
 {
     let mut output: Vec<u8> = Vec::new(rt.alloc());
@@ -89,9 +85,9 @@ fn push_live<R: AllocGlobal + Threads + Wait + Clock + Sync>(
         &NoGate,
         &mut Writer::new(&mut output),
         said,
-    )?;
+    );
     let text = std::str::from_utf8(output.as_slice()).unwrap_or("no text");
-    write!(said, ":\n{text}")
+    write!(said, ":\n{text}");
 }
 
 // The answer of a live report on a case, if it is not `report`.
@@ -100,15 +96,15 @@ fn push_other<R: AllocGlobal + Threads + Wait + Clock + Sync>(
     case: &str,
     report: &str,
     options: Options,
-    unlike: &mut String,
-) -> Result<(), AllocError>
+    unlike: &mut Said,
+)
     requires { 0 < options.workers }
 {
-    let mut other = String::new(rt.alloc());
-    push_live(rt, case, &options, &mut other)?;
+    let mut other = Said::new(rt.alloc());
+    push_live(rt, case, &options, &mut other);
     push_unlike(
         report,
-        other.as_str(),
+        &other,
         options.workers,
         options.batch as usize,
         unlike,
@@ -120,32 +116,31 @@ fn push_others<R: AllocGlobal + Threads + Wait + Clock + Sync>(
     rt: &R,
     case: &str,
     report: &str,
-    unlike: &mut String,
-) -> Result<(), AllocError> {
+    unlike: &mut Said,
+) {
     for workers in [1u32, 2, 7, 64] {
         for lanes in LANES {
             for by_length in [false, true] {
-                let options = spread(rt.alloc(), workers.max(1), lanes, by_length)?;
-                push_other(rt, case, report, options, unlike)?;
+                match spread(rt.alloc(), workers.max(1), lanes, by_length) {
+                    Ok(options) => push_other(rt, case, report, options, unlike),
+                    Err(_) => unlike.cut(),
+                }
             }
         }
     }
-    Ok(())
 }
 
 // The answers of live reports on the cases of a table that are not the report of the case.
-fn unlike_reports<R: AllocGlobal + Threads + Wait + Clock + Sync>(
-    rt: &R,
-) -> Result<String, AllocError> {
-    let mut row = String::new(rt.alloc());
-    let mut case = String::new(rt.alloc());
-    let mut report = String::new(rt.alloc());
-    let mut unlike = String::new(rt.alloc());
+fn unlike_reports<R: AllocGlobal + Threads + Wait + Clock + Sync>(rt: &R) -> Said {
+    let mut row = Said::new(rt.alloc());
+    let mut case = Said::new(rt.alloc());
+    let mut report = Said::new(rt.alloc());
+    let mut unlike = Said::new(rt.alloc());
     for short in SPREADS.split("\n%case\n") {
-        write_case(short, &mut row, &mut case, &mut report)?;
-        push_others(rt, case.as_str(), report.as_str(), &mut unlike)?;
+        write_case(short, &mut row, &mut case, &mut report);
+        push_others(rt, case.as_str(), report.as_str(), &mut unlike);
     }
-    Ok(unlike)
+    unlike
 }
 
 /// The report goes out whole, whatever the workers, the lanes and the verdicts are.
@@ -209,16 +204,20 @@ fn gated<R: AllocGlobal + Threads + Wait + Clock + Sync, G: Gate + Sync>(
     rt: &R,
     gate: &G,
     lines: &AtomicU64,
-) -> Result<String, AllocError> {
-    let case = first_case(rt.alloc())?;
-    let options = spread(rt.alloc(), 2, 64, false)?;
-    let mut said = String::new(rt.alloc());
+) -> Said {
+    let mut said = Said::new(rt.alloc());
+    let case = first_case(rt.alloc());
+    said.cut_with(&case);
+    let Ok(options) = spread(rt.alloc(), 2, 64, false) else {
+        said.cut();
+        return said;
+    };
     let text = Vec::new(rt.alloc());
     let mut output = CountedLines { text, lines };
     let mut sink = Writer::new(&mut output);
-    push_followed(rt, case.as_str(), &options, gate, &mut sink, &mut said)?;
-    write!(said, ", {} lines", lines.load(Ordering::SeqCst))?;
-    Ok(said)
+    push_followed(rt, case.as_str(), &options, gate, &mut sink, &mut said);
+    write!(said, ", {} lines", lines.load(Ordering::SeqCst));
+    said
 }
 
 /// An implementation that writes everything at the end does not pass the gate.
@@ -277,20 +276,22 @@ fn push_brittle<R: AllocGlobal + Threads + Wait + Clock + Sync>(
     rt: &R,
     case: &str,
     fails_at: usize,
-    said: &mut String,
-) -> Result<(), AllocError> {
-    let options = spread(rt.alloc(), 2, 64, false)?;
+    said: &mut Said,
+) {
+    let Ok(options) = spread(rt.alloc(), 2, 64, false) else {
+        return said.cut();
+    };
     let mut taken: Vec<u8> = Vec::new(rt.alloc());
     let mut output = Brittle {
         taken: &mut taken,
         fails_at,
     };
     let mut sink = Writer::new(&mut output);
-    push_followed(rt, case, &options, &NoGate, &mut sink, said)?;
+    push_followed(rt, case, &options, &NoGate, &mut sink, said);
     drop(sink);
     drop(output);
     let text = std::str::from_utf8(taken.as_slice()).unwrap_or("no text");
-    write!(said, ":\n{text}")
+    write!(said, ":\n{text}");
 }
 
 // The answer of `push_brittle`, if the report does not stop once its sink has failed, or if the
@@ -300,31 +301,30 @@ fn push_not_stopped<R: AllocGlobal + Threads + Wait + Clock + Sync>(
     case: &str,
     report: &str,
     fails_at: usize,
-    unlike: &mut String,
-) -> Result<(), AllocError> {
-    let mut said = String::new(rt.alloc());
-    push_brittle(rt, case, fails_at, &mut said)?;
+    unlike: &mut Said,
+) {
+    let mut said = Said::new(rt.alloc());
+    push_brittle(rt, case, fails_at, &mut said);
     let first = report.get(..fails_at).unwrap_or("no text");
-    let wanted = format!(in rt.alloc(); "the output failed after {fails_at} bytes:\n{first}")?;
-    push_unlike(wanted.as_str(), said.as_str(), 2, fails_at, unlike)
+    let mut wanted = Said::new(rt.alloc());
+    write!(wanted, "the output failed after {fails_at} bytes:\n{first}");
+    push_unlike(wanted.as_str(), &said, 2, fails_at, unlike);
 }
 
 // The wrong answers where each write of a report fails in turn, and the length of the report.
-fn not_stopped<R: AllocGlobal + Threads + Wait + Clock + Sync>(
-    rt: &R,
-) -> Result<String, AllocError> {
-    let mut row = String::new(rt.alloc());
-    let mut case = String::new(rt.alloc());
-    let mut report = String::new(rt.alloc());
-    let mut unlike = String::new(rt.alloc());
+fn not_stopped<R: AllocGlobal + Threads + Wait + Clock + Sync>(rt: &R) -> Said {
+    let mut row = Said::new(rt.alloc());
+    let mut case = Said::new(rt.alloc());
+    let mut report = Said::new(rt.alloc());
+    let mut unlike = Said::new(rt.alloc());
     let (short, _) = around(around(SPREADS, "\n%case\n").1, "\n%case\n");
-    write_case(short, &mut row, &mut case, &mut report)?;
+    write_case(short, &mut row, &mut case, &mut report);
     let report = around(report.as_str(), ":\n").1;
     for fails_at in 0..report.len() {
-        push_not_stopped(rt, case.as_str(), report, fails_at, &mut unlike)?;
+        push_not_stopped(rt, case.as_str(), report, fails_at, &mut unlike);
     }
-    write!(unlike, "{} bytes", report.len())?;
-    Ok(unlike)
+    write!(unlike, "{} bytes", report.len());
+    unlike
 }
 
 /// Each write of the report on lanes that retire fails in turn.
@@ -346,11 +346,13 @@ a,1,2,1
 ";
 
 // The end of a live report on refused texts, and the bytes that go out.
-fn refused<R: AllocGlobal + Threads + Wait + Clock + Sync>(rt: &R) -> Result<String, AllocError> {
-    let options = spread(rt.alloc(), 1, 64, false)?;
-    let mut said = String::new(rt.alloc());
-    push_live(rt, REFUSED, &options, &mut said)?;
-    Ok(said)
+fn refused<R: AllocGlobal + Threads + Wait + Clock + Sync>(rt: &R) -> Said {
+    let mut said = Said::new(rt.alloc());
+    match spread(rt.alloc(), 1, 64, false) {
+        Ok(options) => push_live(rt, REFUSED, &options, &mut said),
+        Err(_) => said.cut(),
+    }
+    said
 }
 
 /// No byte goes out where the texts are refused.
@@ -366,24 +368,25 @@ const NINETY: &[u8] = b"node main(x: int) returns (ok: bool); let ok = x < 90; t
 
 // A text of more than two megabytes, and its report. Each trace has a hundred instants, and counts
 // up from a number below twenty.
-fn push_counting(text: &mut String, report: &mut String) -> Result<(), AllocError> {
-    text.push_str("trace,x\n")?;
+fn push_counting(text: &mut Said, report: &mut Said) {
+    text.push_str("trace,x\n");
     for k in 0..2600u32 {
         let first = k % 20;
         for t in 0..100u32 {
-            write!(text, "t{k},{}\n", first + t)?;
+            write!(text, "t{k},{}\n", first + t);
         }
-        write!(report, "t{k} false {}\n", 90 - first)?;
+        write!(report, "t{k} false {}\n", 90 - first);
     }
     report.push_str("total 2600 passed 0 fault 0 undefined 0 assertion 0 false 2600\n")
 }
 
 // The bytes of a live report on a text that is read in chunks; none if the report is not whole.
-fn placed<R: AllocGlobal + Threads + Wait + Clock + Sync>(
-    rt: &R,
-    text: &[u8],
-) -> Result<String, AllocError> {
-    let options = spread(rt.alloc(), 2, 64, false)?;
+fn placed<R: AllocGlobal + Threads + Wait + Clock + Sync>(rt: &R, text: &[u8]) -> Said {
+    let mut said = Said::new(rt.alloc());
+    let Ok(options) = spread(rt.alloc(), 2, 64, false) else {
+        said.cut();
+        return said;
+    };
     let mut output: Vec<u8> = Vec::new(rt.alloc());
     let mut sink = Writer::new(&mut output);
     let found = follow_file(
@@ -399,15 +402,14 @@ fn placed<R: AllocGlobal + Threads + Wait + Clock + Sync>(
     if !is_whole {
         output.clear();
     }
-    let mut said = String::new(rt.alloc());
-    said.push_str(std::str::from_utf8(output.as_slice()).unwrap_or("no text"))?;
-    Ok(said)
+    said.push_str(std::str::from_utf8(output.as_slice()).unwrap_or("no text"));
+    said
 }
 
 #[test]
 fn live_report_in_chunks(rt: HostRuntime) -> Result<(), Fail> {
-    let mut text = String::new(rt.alloc());
-    let mut report = String::new(rt.alloc());
-    push_counting(&mut text, &mut report)?;
-    expect(&placed(&rt, text.as_bytes()), report.as_str())
+    let mut text = Said::new(rt.alloc());
+    let mut report = Said::new(rt.alloc());
+    push_counting(&mut text, &mut report);
+    expect(&placed(&rt, text.as_str().as_bytes()), report.whole()?)
 }

@@ -1,8 +1,7 @@
 //! Texts that are cut short or damaged, and programs at their limits.
 
 use crate::answers::{push_run, spread};
-use crate::texts::{around, expect};
-use std::alloc::{AllocError, Global};
+use crate::texts::{Said, around, expect};
 use std::test::Fail;
 use std::thread::Threads;
 
@@ -35,11 +34,13 @@ fn number_of(said: &str) -> u8 {
 }
 
 /// The answer on a case text by one worker, as a number.
-fn answer<R: AllocGlobal + Threads + Sync>(rt: &R, case: &[u8]) -> Result<u8, AllocError> {
-    let options = spread(rt.alloc(), 1, 64, false)?;
-    let mut said = String::new(rt.alloc());
-    push_run(rt, case, &options, &mut said)?;
-    Ok(number_of(said.as_str()))
+fn answer<R: AllocGlobal + Threads + Sync>(rt: &R, case: &[u8]) -> u8 {
+    let Ok(options) = spread(rt.alloc(), 1, 64, false) else {
+        return NO_ANSWER;
+    };
+    let mut said = Said::new(rt.alloc());
+    push_run(rt, case, &options, &mut said);
+    said.whole().map_or(NO_ANSWER, number_of)
 }
 
 /// The wanted answer by the last line of a trace text: a trace name alone is a record without its
@@ -72,15 +73,17 @@ fn wanted_of(text: &str) -> u8 {
 
 /// The first length to which the case text is cut and then has a wrong answer, behind that answer.
 /// Nothing where there is none.
-fn first_wrong_cut<R: AllocGlobal + Threads + Sync>(rt: &R) -> Result<String, AllocError> {
+fn first_wrong_cut<R: AllocGlobal + Threads + Sync>(rt: &R) -> Said {
+    let mut said = Said::new(rt.alloc());
     for length in 0..CASE.len() + 1 {
         let text = CASE.get(..length).unwrap_or("no text");
-        let number = answer(rt, text.as_bytes())?;
+        let number = answer(rt, text.as_bytes());
         if number != wanted_of(text) {
-            return format!(in rt.alloc(); "{number} at byte {length}");
+            write!(said, "{number} at byte {length}");
+            return said;
         }
     }
-    Ok(String::new(rt.alloc()))
+    said
 }
 
 #[test]
@@ -92,12 +95,10 @@ fn cut_texts(rt: HostRuntime) -> Result<(), Fail> {
 const DAMAGE: [u8; 3] = [0, 0xFF, b'('];
 
 /// The answer on the case text with `byte` at `place`.
-fn answer_damaged<R: AllocGlobal + Threads + Sync>(
-    rt: &R,
-    place: usize,
-    byte: u8,
-) -> Result<u8, AllocError> {
-    let mut text = Vec::from_slice(rt.alloc(), CASE.as_bytes())?;
+fn answer_damaged<R: AllocGlobal + Threads + Sync>(rt: &R, place: usize, byte: u8) -> u8 {
+    let Ok(mut text) = Vec::from_slice(rt.alloc(), CASE.as_bytes()) else {
+        return NO_ANSWER;
+    };
     if let Some(damaged) = text.get_mut(place) {
         *damaged = byte;
     }
@@ -106,15 +107,17 @@ fn answer_damaged<R: AllocGlobal + Threads + Sync>(
 
 /// The first place of the case text, and the byte put there, for which the answer is neither a
 /// refusal of the texts, with a number below 19, nor a whole report. Nothing where there is none.
-fn first_wrong_damage<R: AllocGlobal + Threads + Sync>(rt: &R) -> Result<String, AllocError> {
+fn first_wrong_damage<R: AllocGlobal + Threads + Sync>(rt: &R) -> Said {
+    let mut said = Said::new(rt.alloc());
     for place in 0..CASE.len() {
         for byte in DAMAGE {
-            if answer_damaged(rt, place, byte)? >= 19 {
-                return format!(in rt.alloc(); "byte {place} is {byte}");
+            if answer_damaged(rt, place, byte) >= 19 {
+                write!(said, "byte {place} is {byte}");
+                return said;
             }
         }
     }
-    Ok(String::new(rt.alloc()))
+    said
 }
 
 #[test]
@@ -123,37 +126,35 @@ fn damaged_texts(rt: HostRuntime) -> Result<(), Fail> {
 }
 
 /// A source of `count` nodes. Each node calls the next, but for the last.
-fn chain_of(alloc: Global, count: u32) -> Result<String, AllocError> {
-    let mut source = String::new(alloc);
-    let mut name = String::from_str(alloc, "main")?;
+fn push_chain(count: u32, source: &mut Said) {
+    source.push_str("node main");
     for k in 1..count {
-        let node = name.as_str();
         write!(
             source,
-            "node {node}(a: int) returns (b: bool); let b = n{k}(a); tel\n"
-        )?;
-        name = format!(in alloc; "n{k}")?;
+            "(a: int) returns (b: bool); let b = n{k}(a); tel\nnode n{k}"
+        );
     }
-    let node = name.as_str();
-    write!(
-        source,
-        "node {node}(a: int) returns (b: bool); let b = a > 0; tel\n"
-    )?;
-    Ok(source)
+    source.push_str("(a: int) returns (b: bool); let b = a > 0; tel\n");
 }
 
 /// The answer on a chain of `count` nodes, which runs over one trace.
-fn answer_on_chain<R: AllocGlobal + Threads + Sync>(rt: &R, count: u32) -> Result<u8, AllocError> {
-    let mut case = chain_of(rt.alloc(), count)?;
-    case.push_str("%traces\ntrace,a\nt,1\n")?;
-    answer(rt, case.as_bytes())
+fn answer_on_chain<R: AllocGlobal + Threads + Sync>(rt: &R, count: u32) -> u8 {
+    let mut case = Said::new(rt.alloc());
+    push_chain(count, &mut case);
+    case.push_str("%traces\ntrace,a\nt,1\n");
+    match case.whole() {
+        Ok(case) => answer(rt, case.as_bytes()),
+        Err(_) => NO_ANSWER,
+    }
 }
 
 /// The answers on the longest chain that is accepted, and on a longer one.
-fn answers_on_chains<R: AllocGlobal + Threads + Sync>(rt: &R) -> Result<String, AllocError> {
-    let longest = answer_on_chain(rt, 64)?;
-    let longer = answer_on_chain(rt, 65)?;
-    format!(in rt.alloc(); "{longest} and {longer}")
+fn answers_on_chains<R: AllocGlobal + Threads + Sync>(rt: &R) -> Said {
+    let mut said = Said::new(rt.alloc());
+    let longest = answer_on_chain(rt, 64);
+    let longer = answer_on_chain(rt, 65);
+    write!(said, "{longest} and {longer}");
+    said
 }
 
 #[test]

@@ -1,9 +1,8 @@
 //! Worked values of lane words, from the rules of the operators and not from the kernels.
 
 use crate::lanes::operator;
-use crate::texts::is_same;
+use crate::texts::{Said, is_same};
 use lb_lanes::{LaneWord, Plane, Width};
-use std::alloc::AllocError;
 
 // Puts the value of `lane:value` into its lane.
 fn set_lane(word: &mut LaneWord, spelled: &str) -> Option<()> {
@@ -71,13 +70,13 @@ fn put_row(asked: &str, width: Width) -> Option<(LaneWord, Plane)> {
 }
 
 /// Lanes 0, 1, 31 and 63 of the result of a kernel on two words, and its plane.
-pub fn push_words(asked: &str, said: &mut String) -> Result<(), AllocError> {
+pub fn push_words(asked: &str, said: &mut Said) {
     match put_row(asked, Width::all()) {
         Some((out, plane)) => {
             for lane in [0u32, 1, 31, 63] {
-                write!(said, "{} ", out.get(lane))?;
+                write!(said, "{} ", out.get(lane));
             }
-            write!(said, "{}", plane.0)
+            write!(said, "{}", plane.0);
         }
         None => said.push_str("no numbers"),
     }
@@ -93,16 +92,16 @@ fn put_narrow_row(asked: &str) -> Option<(Plane, LaneWord, Plane)> {
 
 /// The lanes that a row asks for, of the result of its kernel in the least width with these lanes,
 /// and of its plane.
-pub fn push_narrow(asked: &str, said: &mut String) -> Result<(), AllocError> {
+pub fn push_narrow(asked: &str, said: &mut Said) {
     let Some((told, out, plane)) = put_narrow_row(asked) else {
         return said.push_str("no numbers");
     };
     for lane in 0..64u32 {
         if told.get(lane) {
-            write!(said, "{} ", out.get(lane))?;
+            write!(said, "{} ", out.get(lane));
         }
     }
-    write!(said, "{}", plane.and(told).0)
+    write!(said, "{}", plane.and(told).0);
 }
 
 // Rows: a kernel, two words, and the plane of the lanes that count, or that take the first word.

@@ -3,7 +3,7 @@
 ghost use Rattle.std.specs.Prelude.{◌≡◌, length};
 ghost use Rattle.lb_lanes.specs.Kernels.{AreInts};
 
-use crate::texts::around;
+use crate::texts::{Said, around};
 use lb_lanes::{
     IntLanes, IntOperator, Plane, and_slices, any_outside, commit_ints, commit_planes, or_slices,
     transpose, xor_slices,
@@ -88,7 +88,7 @@ fn applied_row(asked: &str) -> Option<(IntLanes, Plane)> {
 }
 
 // Lanes 0 and 1 of the result of a kernel on its numbers, and its plane.
-pub fn push_ints(asked: &str, said: &mut String) -> Result<(), AllocError> {
+pub fn push_ints(asked: &str, said: &mut Said) {
     match applied_row(asked) {
         Some((lanes, faults)) => { write!(said, "{} {} {}", lanes.get(0), lanes.get(1), faults.0) }
         None => said.push_str("no numbers"),
@@ -116,7 +116,7 @@ fn combined_row(asked: &str) -> Option<Plane> {
 }
 
 // The result of a kernel on its planes.
-pub fn push_plane(asked: &str, said: &mut String) -> Result<(), AllocError> {
+pub fn push_plane(asked: &str, said: &mut Said) {
     match combined_row(asked) {
         Some(plane) => write!(said, "{}", plane.0),
         None => said.push_str("no numbers"),
@@ -187,16 +187,15 @@ fn set_rows(words: &mut [u64; 64], asked: &str) {
 }
 
 /// The rows of a matrix that are not 0 once it has been transposed.
-pub fn push_transposed(asked: &str, said: &mut String) -> Result<(), AllocError> {
+pub fn push_transposed(asked: &str, said: &mut Said) {
     let mut words = [0u64; 64];
     set_rows(&mut words, asked);
     transpose(&mut words);
     for number in 0..64usize {
         if words[number] != 0 {
-            write!(said, "{number}:{};", words[number])?;
+            write!(said, "{number}:{};", words[number]);
         }
     }
-    Ok(())
 }
 
 // The rows of a matrix that are not 0, and those of the transposed matrix.

@@ -3,6 +3,9 @@
 //!
 //! Most go over a table of text. A row has a question and the wanted answer, and is split when the
 //! test runs, so that a further case costs no proof. The wanted answers were worked out by hand.
+//!
+//! Answers are written into `texts::Said`, which keeps whether memory ran out. So no call that
+//! writes has a `?` behind it, whose proof would cost twice that of the call.
 #![tactic(auto)]
 
 #[cfg(test)]

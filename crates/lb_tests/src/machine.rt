@@ -5,7 +5,7 @@ ghost use Rattle.std.specs.Prelude.{◌≡◌, ◌<◌, ◌≤◌, ◌+◌, IfSo
 ghost use Rattle.lb_machine.specs.Correct.{HasRoom};
 
 use crate::lanes::{number, operator};
-use crate::texts::{around, is_same};
+use crate::texts::{Said, around, is_same};
 use lb_lanes::{IntOperator, LaneWord, Width};
 use lb_machine::{
     Code, Comparison, FALSE_PLANE, PlaneId, PlaneOperator, TRUE_PLANE, WordId, carry_planes,
@@ -226,14 +226,14 @@ fn planes_for(alloc: Global, given: (u32, u32), count: u32) -> Result<Vec<u64>, 
     Ok(planes)
 }
 
-fn push_plane(planes: &[u64], p: PlaneId, said: &mut String) -> Result<(), AllocError> {
+fn push_plane(planes: &[u64], p: PlaneId, said: &mut Said) {
     match planes.get(p.0 as usize) {
         Some(plane) => write!(said, " {}={plane}", p.0),
         None => write!(said, " no {}", p.0),
     }
 }
 
-fn push_word(words: &[LaneWord], w: WordId, said: &mut String) -> Result<(), AllocError> {
+fn push_word(words: &[LaneWord], w: WordId, said: &mut Said) {
     match words.get(w.0 as usize) {
         Some(word) => {
             write!(
@@ -250,26 +250,20 @@ fn push_word(words: &[LaneWord], w: WordId, said: &mut String) -> Result<(), All
 }
 
 // The values of the places that the commands made.
-fn push_made(
-    planes: &[u64],
-    words: &[LaneWord],
-    all: &[Made],
-    said: &mut String,
-) -> Result<(), AllocError> {
+fn push_made(planes: &[u64], words: &[LaneWord], all: &[Made], said: &mut Said) {
     for one in all {
         match *one {
-            Made::Plane(p) => push_plane(planes, p, said)?,
-            Made::Word(w) => push_word(words, w, said)?,
+            Made::Plane(p) => push_plane(planes, p, said),
+            Made::Word(w) => push_word(words, w, said),
             Made::Both(w, p) => {
-                push_word(words, w, said)?;
-                push_plane(planes, p, said)?;
+                push_word(words, w, said);
+                push_plane(planes, p, said);
             }
-            Made::Within(is_within) => write!(said, " {is_within}")?,
-            Made::Marks(marks) => write!(said, " {marks:b}")?,
-            Made::Nothing => said.push_str(" nothing")?,
+            Made::Within(is_within) => write!(said, " {is_within}"),
+            Made::Marks(marks) => write!(said, " {marks:b}"),
+            Made::Nothing => said.push_str(" nothing"),
         }
     }
-    Ok(())
 }
 
 // The number of instructions of code.
@@ -287,14 +281,14 @@ fn push_run(
     planes: &mut [u64],
     words: &mut [LaneWord],
     all: &[Made],
-    said: &mut String,
-) -> Result<(), AllocError> {
+    said: &mut Said,
+) {
     if planes.len() != code.planes as usize || words.len() != code.words as usize {
         return said.push_str("no room");
     }
     code.run(planes, words, Width::all());
-    write!(said, "{}:", instructions(code))?;
-    push_made(planes, words, all, said)
+    write!(said, "{}:", instructions(code));
+    push_made(planes, words, all, said);
 }
 
 // A number that a word spells, or 0.
@@ -315,21 +309,33 @@ fn given_by(text: &str) -> ((u32, u32), [i32; 4]) {
     (planes, words)
 }
 
-/// The number of instructions of some commands, and what each makes, after a run on two planes and
-/// lanes 0 and 1 of two words.
-pub fn push_results(alloc: Global, asked: &str, said: &mut String) -> Result<(), AllocError> {
-    let (given, commands) = around(asked, " | ");
+// Runs code as `push_run` on two planes and lanes 0 and 1 of two words.
+fn push_built(
+    alloc: Global,
+    built: &(Code, Vec<Made>),
+    given: &str,
+    said: &mut Said,
+) -> Result<(), AllocError> {
+    let (code, all) = built;
     let (given_planes, given_words) = given_by(given);
-    let (code, all) = built(alloc, commands)?;
     let mut planes = planes_for(alloc, given_planes, code.planes)?;
     let mut words = words_for(alloc, &given_words, code.words)?;
-    push_run(
-        &code,
-        planes.as_mut_slice(),
-        words.as_mut_slice(),
-        all.as_slice(),
-        said,
-    )
+    push_run(code, &mut planes, &mut words, all, said);
+    Ok(())
+}
+
+/// The number of instructions of some commands, and what each makes, after a run on two planes and
+/// lanes 0 and 1 of two words.
+pub fn push_results(alloc: Global, asked: &str, said: &mut Said) {
+    let (given, commands) = around(asked, " | ");
+    match &built(alloc, commands) {
+        Ok(built) => {
+            if push_built(alloc, built, given, said).is_err() {
+                said.cut();
+            }
+        }
+        Err(_) => said.cut(),
+    }
 }
 
 // Rows: two planes, lanes 0 and 1 of two words, and commands. Then the number of instructions, and
@@ -369,20 +375,19 @@ w7=2147483647,-3,0 13=0 w8=0,-1,0 15=0
 // ## Carrying
 
 // Carries two of six planes to the places from `first` on, if they stand behind these.
-fn push_planes(first: u32, a: u32, b: u32, said: &mut String) -> Result<(), AllocError> {
+fn push_planes(first: u32, a: u32, b: u32, said: &mut Said) {
     if first > 4 || a < first + 2 || a > 5 || b < first + 2 || b > 5 {
         return said.push_str("no room");
     }
     let mut planes = [10, 11, 12, 13, 14, 15];
     carry_planes(&mut planes, first, &[PlaneId(a), PlaneId(b)]);
     for plane in &planes {
-        write!(said, " {plane}")?;
+        write!(said, " {plane}");
     }
-    Ok(())
 }
 
 // Carries two of six words to the places from `first` on, if they stand behind these.
-fn push_words(first: u32, a: u32, b: u32, said: &mut String) -> Result<(), AllocError> {
+fn push_words(first: u32, a: u32, b: u32, said: &mut Said) {
     if first > 4 || a < first + 2 || a > 5 || b < first + 2 || b > 5 {
         return said.push_str("no room");
     }
@@ -396,23 +401,23 @@ fn push_words(first: u32, a: u32, b: u32, said: &mut String) -> Result<(), Alloc
     ];
     carry_words(&mut words, first, &[WordId(a), WordId(b)]);
     for word in &words {
-        write!(said, " {},{}", word.get(0), word.get(1))?;
+        write!(said, " {},{}", word.get(0), word.get(1));
     }
-    Ok(())
 }
 
 /// The planes, or the words, after two of them were carried to the first place and the next.
-pub fn push_carried(asked: &str, said: &mut String) -> Result<(), AllocError> {
+pub fn push_carried(asked: &str, said: &mut Said) {
     let mut words = asked.split(' ');
     let kind = words.next().unwrap_or("");
     let first = place(words.next());
     let a = place(words.next());
     let b = place(words.next());
-    said.push_str("now")?;
+    said.push_str("now");
     if is_same(kind, "planes") {
-        return push_planes(first, a, b, said);
+        push_planes(first, a, b, said);
+    } else {
+        push_words(first, a, b, said);
     }
-    push_words(first, a, b, said)
 }
 
 // Rows: the first place, and the two that are carried there and to the next place. Then all six.

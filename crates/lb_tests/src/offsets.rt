@@ -5,10 +5,11 @@
 //! with the offset of its first token: `+@14 from 10`. The parts of a form follow it. A name is
 //! written out if other bytes stand at its offset.
 
+use crate::texts::Said;
 use lb_syntax::{
     Constant, Declarations, Expr, Name, Node, Offset, Operator, Source, Statement, Static, parse,
 };
-use std::alloc::{AllocError, Global};
+use std::alloc::Global;
 
 /// The text from an offset on.
 fn text_from(text: &[u8], at: Offset) -> &[u8] {
@@ -16,99 +17,91 @@ fn text_from(text: &[u8], at: Offset) -> &[u8] {
 }
 
 /// ` x@12`: the token at an offset, a word or a number as long as it goes, or else its first byte.
-fn push_token(text: &[u8], at: Offset, said: &mut String) -> Result<(), AllocError> {
-    said.push(' ')?;
+fn push_token(text: &[u8], at: Offset, said: &mut Said) {
+    said.push(' ');
     for (index, byte) in text_from(text, at).iter().enumerate() {
         let is_word = byte.is_ascii_alphanumeric() || *byte == b'_';
         if index == 0 || is_word {
-            said.push(char::from(*byte))?;
+            said.push(char::from(*byte));
         }
         if !is_word {
             break;
         }
     }
-    write!(said, "@{at}")
+    write!(said, "@{at}");
 }
 
 /// The bytes of a name, if others stand at its offset.
-fn push_other(text: &[u8], name: &Name, said: &mut String) -> Result<(), AllocError> {
+fn push_other(text: &[u8], name: &Name, said: &mut Said) {
     if text_from(text, name.offset).starts_with(name.as_bytes()) {
-        return Ok(());
+        return;
     }
-    write!(said, " and not {}", name.as_str())
+    write!(said, " and not {}", name.as_str());
 }
 
-fn push_name(text: &[u8], name: &Name, said: &mut String) -> Result<(), AllocError> {
-    push_token(text, name.offset, said)?;
-    push_other(text, name, said)
+fn push_name(text: &[u8], name: &Name, said: &mut Said) {
+    push_token(text, name.offset, said);
+    push_other(text, name, said);
 }
 
-fn push_names(text: &[u8], names: &[Name], said: &mut String) -> Result<(), AllocError> {
+fn push_names(text: &[u8], names: &[Name], said: &mut Said) {
     for name in names {
-        push_name(text, name, said)?;
+        push_name(text, name, said);
     }
-    Ok(())
 }
 
 /// ` if@40`, or ` +@14 from 10`.
-fn push_form(
-    text: &[u8],
-    at: Offset,
-    sign: Option<Offset>,
-    said: &mut String,
-) -> Result<(), AllocError> {
+fn push_form(text: &[u8], at: Offset, sign: Option<Offset>, said: &mut Said) {
     match sign {
         None => push_token(text, at, said),
         Some(sign) => {
-            push_token(text, sign, said)?;
-            write!(said, " from {at}")
+            push_token(text, sign, said);
+            write!(said, " from {at}");
         }
     }
 }
 
-fn push_static(text: &[u8], s: &Static, said: &mut String) -> Result<(), AllocError> {
-    push_form(text, s.offset(), s.sign_offset(), said)?;
+fn push_static(text: &[u8], s: &Static, said: &mut Said) {
+    push_form(text, s.offset(), s.sign_offset(), said);
     match s {
-        Static::Whole(..) => Ok(()),
+        Static::Whole(..) => {}
         Static::Named(name) => push_other(text, name, said),
         Static::Negated(inner, _) | Static::Grouped(inner, _) => push_static(text, inner, said),
         Static::Combined(_, left, right, _) => {
-            push_static(text, left, said)?;
-            push_static(text, right, said)
+            push_static(text, left, said);
+            push_static(text, right, said);
         }
     }
 }
 
-fn push_statics(text: &[u8], statics: &[Static], said: &mut String) -> Result<(), AllocError> {
+fn push_statics(text: &[u8], statics: &[Static], said: &mut Said) {
     for s in statics {
-        push_static(text, s, said)?;
+        push_static(text, s, said);
     }
-    Ok(())
 }
 
-fn push_operator(text: &[u8], operator: &Operator, said: &mut String) -> Result<(), AllocError> {
+fn push_operator(text: &[u8], operator: &Operator, said: &mut Said) {
     match operator {
         Operator::Node(name, statics) => {
-            push_name(text, name, said)?;
-            push_statics(text, statics, said)
+            push_name(text, name, said);
+            push_statics(text, statics, said);
         }
-        Operator::Symbol(_) => Ok(()),
+        Operator::Symbol(_) => {}
     }
 }
 
 #[cycle(expressions)]
-fn push_exprs(text: &[u8], es: &[Expr], said: &mut String) -> Result<(), AllocError> {
+fn push_exprs(text: &[u8], es: &[Expr], said: &mut Said) {
     for e in es {
-        push_expr(text, e, said)?;
+        push_expr(text, e, said);
     }
-    Ok(())
 }
 
 #[cycle(expressions)]
-fn push_expr(text: &[u8], e: &Expr, said: &mut String) -> Result<(), AllocError> {
-    push_form(text, e.offset(), e.sign_offset(), said)?;
+fn push_expr(text: &[u8], e: &Expr, said: &mut Said) {
+    push_form(text, e.offset(), e.sign_offset(), said);
     match e {
-        Expr::Literal(..) | Expr::Truth(..) => Ok(()),
+        Expr::Literal(..) | Expr::Truth(..) => {}
         Expr::Variable(name) => push_other(text, name, said),
         Expr::Group(a, _) | Expr::Unary(_, a, _) => push_expr(text, a, said),
         Expr::Pre(a, _) | Expr::Current(a, _) => push_expr(text, a, said),
@@ -116,113 +109,105 @@ fn push_expr(text: &[u8], e: &Expr, said: &mut String) -> Result<(), AllocError>
         | Expr::Arrow(a, b, _)
         | Expr::Fby(a, b, _)
         | Expr::Join(a, b, _) => {
-            push_expr(text, a, said)?;
-            push_expr(text, b, said)
+            push_expr(text, a, said);
+            push_expr(text, b, said);
         }
         Expr::If(c, a, b, _) => {
-            push_expr(text, c, said)?;
-            push_expr(text, a, said)?;
-            push_expr(text, b, said)
+            push_expr(text, c, said);
+            push_expr(text, a, said);
+            push_expr(text, b, said);
         }
         Expr::When(a, name, _, _) => {
-            push_expr(text, a, said)?;
-            push_name(text, name, said)
+            push_expr(text, a, said);
+            push_name(text, name, said);
         }
         Expr::Replicate(a, s, _) | Expr::Index(a, s, _) => {
-            push_expr(text, a, said)?;
-            push_static(text, s, said)
+            push_expr(text, a, said);
+            push_static(text, s, said);
         }
         Expr::Slice(a, first, last, _) => {
-            push_expr(text, a, said)?;
-            push_static(text, first, said)?;
-            push_static(text, last, said)
+            push_expr(text, a, said);
+            push_static(text, first, said);
+            push_static(text, last, said);
         }
         Expr::Array(es, _) | Expr::AtMostOne(es, _) | Expr::Nor(es, _) => {
-            push_exprs(text, es, said)
+            push_exprs(text, es, said);
         }
         Expr::Call(name, statics, es) => {
-            push_other(text, name, said)?;
-            push_statics(text, statics, said)?;
-            push_exprs(text, es, said)
+            push_other(text, name, said);
+            push_statics(text, statics, said);
+            push_exprs(text, es, said);
         }
         Expr::Iterate(_, operator, size, es, _) => {
-            push_operator(text, operator, said)?;
-            push_static(text, size, said)?;
-            push_exprs(text, es, said)
+            push_operator(text, operator, said);
+            push_static(text, size, said);
+            push_exprs(text, es, said);
         }
     }
 }
 
 /// The groups of inputs, outputs or locals of a node, each behind `word`.
-fn push_groups(
-    text: &[u8],
-    word: &str,
-    groups: &[Declarations],
-    said: &mut String,
-) -> Result<(), AllocError> {
+fn push_groups(text: &[u8], word: &str, groups: &[Declarations], said: &mut Said) {
     for group in groups {
-        write!(said, "\n{word}")?;
+        write!(said, "\n{word}");
         if let Some(name) = group.names.first() {
-            push_token(text, name.offset, said)?;
+            push_token(text, name.offset, said);
         }
-        said.push(':')?;
-        push_names(text, &group.names, said)?;
-        push_statics(text, &group.sizes, said)?;
+        said.push(':');
+        push_names(text, &group.names, said);
+        push_statics(text, &group.sizes, said);
         if let Some(clock) = &group.clock {
-            push_name(text, &clock.variable, said)?;
+            push_name(text, &clock.variable, said);
         }
     }
-    Ok(())
 }
 
-fn push_statement(text: &[u8], statement: &Statement, said: &mut String) -> Result<(), AllocError> {
-    said.push('\n')?;
-    push_token(text, statement.offset(), said)?;
-    said.push(':')?;
+fn push_statement(text: &[u8], statement: &Statement, said: &mut Said) {
+    said.push('\n');
+    push_token(text, statement.offset(), said);
+    said.push(':');
     match statement {
         Statement::Equation(lefts, e, _) => {
-            push_names(text, lefts, said)?;
-            said.push_str(" =")?;
-            push_expr(text, e, said)
+            push_names(text, lefts, said);
+            said.push_str(" =");
+            push_expr(text, e, said);
         }
         Statement::Assertion(e, _) => push_expr(text, e, said),
     }
 }
 
-fn push_node(text: &[u8], node: &Node, said: &mut String) -> Result<(), AllocError> {
-    said.push('\n')?;
-    push_token(text, node.offset, said)?;
-    push_name(text, &node.name, said)?;
-    push_names(text, &node.parameters, said)?;
-    push_groups(text, "input", &node.inputs, said)?;
-    push_groups(text, "output", &node.outputs, said)?;
-    push_groups(text, "local", &node.locals, said)?;
+fn push_node(text: &[u8], node: &Node, said: &mut Said) {
+    said.push('\n');
+    push_token(text, node.offset, said);
+    push_name(text, &node.name, said);
+    push_names(text, &node.parameters, said);
+    push_groups(text, "input", &node.inputs, said);
+    push_groups(text, "output", &node.outputs, said);
+    push_groups(text, "local", &node.locals, said);
     for statement in &node.body {
-        push_statement(text, statement, said)?;
+        push_statement(text, statement, said);
     }
-    Ok(())
 }
 
-fn push_constant(text: &[u8], constant: &Constant, said: &mut String) -> Result<(), AllocError> {
-    said.push('\n')?;
-    push_token(text, constant.name.offset, said)?;
-    push_other(text, &constant.name, said)?;
-    said.push_str(" =")?;
-    push_static(text, &constant.value, said)
+fn push_constant(text: &[u8], constant: &Constant, said: &mut Said) {
+    said.push('\n');
+    push_token(text, constant.name.offset, said);
+    push_other(text, &constant.name, said);
+    said.push_str(" =");
+    push_static(text, &constant.value, said);
 }
 
-fn push_source(text: &[u8], source: &Source, said: &mut String) -> Result<(), AllocError> {
+fn push_source(text: &[u8], source: &Source, said: &mut Said) {
     for constant in &source.constants {
-        push_constant(text, constant, said)?;
+        push_constant(text, constant, said);
     }
     for node in &source.nodes {
-        push_node(text, node, said)?;
+        push_node(text, node, said);
     }
-    Ok(())
 }
 
 /// The offsets of the names and the forms of a text.
-pub fn push_offsets(alloc: Global, text: &str, said: &mut String) -> Result<(), AllocError> {
+pub fn push_offsets(alloc: Global, text: &str, said: &mut Said) {
     match &parse(alloc, text.as_bytes()) {
         Ok(source) => push_source(text.as_bytes(), source, said),
         Err(error) => write!(said, "\n{error}"),

@@ -6,7 +6,7 @@ ghost use Rattle.lb_pool.specs.Seats.{IsSeatOf, shares_of};
 use crate::answers::{push_answer, push_run, spread};
 use crate::batches::prepared;
 use crate::tables::write_out;
-use crate::texts::{around, expect, push_unlike};
+use crate::texts::{Said, around, expect, push_unlike};
 use lb_check::Verdict;
 use lb_flat::{Ordered, eval_trace};
 use lb_pool::{ClaimBoard, ClaimSeat, Gate, Plan, run_claims};
@@ -23,36 +23,29 @@ use std::thread::Threads;
 // ## Plans
 
 // The records of traces with these lengths, numbered from 0, without cells.
-fn push_traces(text: &mut String, lengths: &str) -> Result<(), AllocError> {
+fn push_traces(text: &mut Said, lengths: &str) {
     let mut number: u32 = 0;
     for length in lengths.split(' ') {
         for _ in 0..length.parse::<u32>().unwrap_or(0) {
-            write!(text, "t{number}\n")?;
+            write!(text, "t{number}\n");
         }
         number = number.saturating_add(1);
     }
-    Ok(())
 }
 
 // The number of batches and of traces of a plan, and its batches.
-fn push_batches(plan: &Plan, said: &mut String) -> Result<(), AllocError> {
-    write!(said, "{} of {}:", plan.batches(), plan.traces())?;
+fn push_batches(plan: &Plan, said: &mut Said) {
+    write!(said, "{} of {}:", plan.batches(), plan.traces());
     for i in 0..plan.batches() {
-        said.push_str(" |")?;
+        said.push_str(" |");
         for k in plan.batch(i) {
-            write!(said, " {k}")?;
+            write!(said, " {k}");
         }
     }
-    Ok(())
 }
 
 // The plan for a width: `2`, or `2 by length`.
-fn push_plan_of(
-    alloc: Global,
-    set: &TraceSet,
-    width: &str,
-    said: &mut String,
-) -> Result<(), AllocError> {
+fn push_plan_of(alloc: Global, set: &TraceSet, width: &str, said: &mut Said) {
     let (number, is_by_length) = match width.split_once(' ') {
         Some((number, _)) => (number, true),
         None => (width, false),
@@ -66,14 +59,19 @@ fn push_plan_of(
     } else {
         Plan::in_order(alloc, set.len(), width)
     };
-    push_batches(&plan?, said)
+    match &plan {
+        Ok(plan) => push_batches(plan, said),
+        Err(_) => said.cut(),
+    }
 }
 
 /// The plan for a width and the lengths of some traces.
-pub fn push_plan(alloc: Global, asked: &str, said: &mut String) -> Result<(), AllocError> {
+pub fn push_plan(alloc: Global, asked: &str, said: &mut Said) {
     let (width, lengths) = around(asked, ":");
-    let mut text = String::from_str(alloc, "trace\n")?;
-    push_traces(&mut text, lengths)?;
+    let mut text = Said::new(alloc);
+    text.push_str("trace\n");
+    push_traces(&mut text, lengths);
+    said.cut_with(&text);
     let signature = Signature::new(alloc);
     match &read_traces(alloc, &signature, text.as_str().as_bytes()) {
         Ok(set) => push_plan_of(alloc, set, width, said),
@@ -97,7 +95,7 @@ pub const PLANS: &str = "\
 // ## Claim boards
 
 // Claims once.
-fn push_draw(board: &ClaimBoard, seat: &mut ClaimSeat, said: &mut String) -> Result<(), AllocError>
+fn push_draw(board: &ClaimBoard, seat: &mut ClaimSeat, said: &mut Said)
     requires { IsSeatOf board.now seat.old }
     ensures seat { IsSeatOf board.now seat.new }
     ensures shares { shares_of seat.new ≡ shares_of seat.old }
@@ -114,8 +112,8 @@ fn push_draws(
     first: &mut ClaimSeat,
     second: &mut ClaimSeat,
     turns: &str,
-    said: &mut String,
-) -> Result<(), AllocError>
+    said: &mut Said,
+)
     requires first { IsSeatOf board.now first.old }
     requires second { IsSeatOf board.now second.old }
     ensures first { IsSeatOf board.now first.new }
@@ -125,22 +123,23 @@ fn push_draws(
 {
     for turn in turns.as_bytes() {
         if *turn == b'a' {
-            push_draw(board, first, said)?;
+            push_draw(board, first, said);
         } else {
-            push_draw(board, second, said)?;
+            push_draw(board, second, said);
         }
     }
-    Ok(())
 }
 
 /// The numbers that two seats of a board claim in turn, and whether these are all.
-pub fn push_claims(alloc: Global, asked: &str, said: &mut String) -> Result<(), AllocError> {
+pub fn push_claims(alloc: Global, asked: &str, said: &mut Said) {
     let (limit, turns) = around(asked, " ");
-    let (board, seat) = ClaimBoard::new(alloc, limit.parse::<u32>().unwrap_or(0))?;
+    let Ok((board, seat)) = ClaimBoard::new(alloc, limit.parse::<u32>().unwrap_or(0)) else {
+        return said.cut();
+    };
     let (mut first, mut second) = board.split(seat);
-    push_draws(&board, &mut first, &mut second, turns, said)?;
+    push_draws(&board, &mut first, &mut second, turns, said);
     let seat = board.join(first, second);
-    said.push_str(if board.close(seat) { "all" } else { "not all" })
+    said.push_str(if board.close(seat) { "all" } else { "not all" });
 }
 
 // Rows: the count of numbers, and the seat of each claim. Then the numbers that are claimed, and
@@ -173,13 +172,7 @@ fn moved(board: &ClaimBoard, first: ClaimSeat, second: ClaimSeat) -> (ClaimSeat,
 
 // The shares of two seats after each turn, in which `a` or `b` gives the larger half of its own to
 // the other.
-fn push_moves(
-    board: &ClaimBoard,
-    first: ClaimSeat,
-    second: ClaimSeat,
-    turns: &str,
-    said: &mut String,
-) -> Result<(), AllocError>
+fn push_moves(board: &ClaimBoard, first: ClaimSeat, second: ClaimSeat, turns: &str, said: &mut Said)
     requires first { IsSeatOf board.now first }
     requires second { IsSeatOf board.now second }
 {
@@ -195,18 +188,19 @@ fn push_moves(
             a = taker;
             b = giver;
         }
-        write!(said, ", {} {}", a.shares(), b.shares())?;
+        write!(said, ", {} {}", a.shares(), b.shares());
     }
-    Ok(())
 }
 
 /// The shares of a seat, those of its two halves, and those after each turn.
-pub fn push_shares(alloc: Global, turns: &str, said: &mut String) -> Result<(), AllocError> {
-    let (board, seat) = ClaimBoard::new(alloc, 3)?;
-    write!(said, "{}: ", seat.shares())?;
+pub fn push_shares(alloc: Global, turns: &str, said: &mut Said) {
+    let Ok((board, seat)) = ClaimBoard::new(alloc, 3) else {
+        return said.cut();
+    };
+    write!(said, "{}: ", seat.shares());
     let (first, second) = board.split(seat);
-    write!(said, "{} {}", first.shares(), second.shares())?;
-    push_moves(&board, first, second, turns, said)
+    write!(said, "{} {}", first.shares(), second.shares());
+    push_moves(&board, first, second, turns, said);
 }
 
 // Rows: the seats that give the larger half of their shares to the other, turn by turn. Then all
@@ -219,24 +213,22 @@ bbbbaaaaaa => 64: 32 32, 48 16, 56 8, 60 4, 62 2, 31 33, 15 49, 7 57, 3 61, 1 63
 // ## Runs
 
 // The records of a line: `a 2,7` is `a,7` twice. A line without a space is one record.
-fn push_records(case: &mut String, line: &str) -> Result<(), AllocError> {
+fn push_records(case: &mut Said, line: &str) {
     let (name, records) = line.split_once(' ').unwrap_or((line, "1"));
     let (count, cells) = around(records, ",");
     let comma = if cells.is_empty() { "" } else { "," };
     for _ in 0..count.parse::<u32>().unwrap_or(0) {
-        write!(case, "{name}{comma}{cells}\n")?;
+        write!(case, "{name}{comma}{cells}\n");
     }
-    Ok(())
 }
 
 /// A case with counted records, written out: `a 2,7` is `a,7` twice.
-pub fn push_case(case: &mut String, short: &str) -> Result<(), AllocError> {
+pub fn push_case(case: &mut Said, short: &str) {
     let (source, traces) = around(short, "%traces\n");
-    write!(case, "{source}%traces\n")?;
+    write!(case, "{source}%traces\n");
     for line in traces.split('\n') {
-        push_records(case, line)?;
+        push_records(case, line);
     }
-    Ok(())
 }
 
 /// The numbers of lanes of a batch.
@@ -248,13 +240,13 @@ fn push_other<R: AllocGlobal + Threads + Sync>(
     case: &str,
     options: Options,
     wanted: &str,
-    unlike: &mut String,
-) -> Result<(), AllocError> {
-    let mut other = String::new(rt.alloc());
-    push_run(rt, case.as_bytes(), &options, &mut other)?;
+    unlike: &mut Said,
+) {
+    let mut other = Said::new(rt.alloc());
+    push_run(rt, case.as_bytes(), &options, &mut other);
     push_unlike(
         wanted,
-        other.as_str(),
+        &other,
         options.workers,
         options.batch as usize,
         unlike,
@@ -266,32 +258,30 @@ fn push_others<R: AllocGlobal + Threads + Sync>(
     rt: &R,
     case: &str,
     wanted: &str,
-    unlike: &mut String,
-) -> Result<(), AllocError> {
+    unlike: &mut Said,
+) {
     for workers in [0, 1, 2, 7, 64] {
         for lanes in LANES {
             for by_length in [false, true] {
-                let options = spread(rt.alloc(), workers, lanes, by_length)?;
-                push_other(rt, case, options, wanted, unlike)?;
+                match spread(rt.alloc(), workers, lanes, by_length) {
+                    Ok(options) => push_other(rt, case, options, wanted, unlike),
+                    Err(_) => unlike.cut(),
+                }
             }
         }
     }
-    Ok(())
 }
 
 /// The answer on a case with counted records, and the answers that differ with other numbers of
 /// workers and lanes, in order or by length.
-pub fn push_spread<R: AllocGlobal + Threads + Sync>(
-    rt: &R,
-    asked: &str,
-    said: &mut String,
-) -> Result<(), AllocError> {
-    let mut case = String::new(rt.alloc());
-    let mut unlike = String::new(rt.alloc());
-    push_case(&mut case, asked)?;
-    push_answer(rt, case.as_str(), "", said)?;
-    push_others(rt, case.as_str(), said.as_str(), &mut unlike)?;
-    said.push_str(unlike.as_str())
+pub fn push_spread<R: AllocGlobal + Threads + Sync>(rt: &R, asked: &str, said: &mut Said) {
+    let mut case = Said::new(rt.alloc());
+    let mut unlike = Said::new(rt.alloc());
+    push_case(&mut case, asked);
+    said.cut_with(&case);
+    push_answer(rt, case.as_str(), "", said);
+    push_others(rt, case.as_str(), said.as_str(), &mut unlike);
+    said.push_said(&unlike);
 }
 
 // Cases: sixty-five lengths, so that at width 64 the second batch has one trace; traces of which
@@ -406,18 +396,14 @@ impl Gate for Hold {
 }
 
 // The verdict of the last of sixty-five traces, by `eval_trace`.
-fn push_last(
-    alloc: Global,
-    ordered: &Ordered,
-    set: &TraceSet,
-    said: &mut String,
-) -> Result<(), AllocError> {
+fn push_last(alloc: Global, ordered: &Ordered, set: &TraceSet, said: &mut Said) {
     if set.len() != 65 {
         return said.push_str("another count");
     }
-    match eval_trace(alloc, ordered, set, 64)? {
-        Verdict::False(t) => write!(said, ", last false {t}"),
-        _ => said.push_str(", last another"),
+    match eval_trace(alloc, ordered, set, 64) {
+        Ok(Verdict::False(t)) => write!(said, ", last false {t}"),
+        Ok(_) => said.push_str(", last another"),
+        Err(_) => said.cut(),
     }
 }
 
@@ -428,37 +414,45 @@ fn push_verdicts<R: Threads + Sync>(
     ordered: &Ordered,
     set: &TraceSet,
     gate: &Hold,
-    said: &mut String,
+    said: &mut Said,
 ) -> Result<(), AllocError> {
     let plan = Plan::in_order(alloc, set.len(), 64)?;
     if plan.traces() != set.len() {
-        return said.push_str("not all traces");
+        said.push_str("not all traces");
+        return Ok(());
     }
     let verdicts = run_claims(rt, alloc, ordered, set, &plan, 2, gate)?;
     let status = status(verdicts.as_slice());
-    write!(said, "{} verdicts, status {status}", verdicts.len())?;
-    push_last(alloc, ordered, set, said)
+    write!(said, "{} verdicts, status {status}", verdicts.len());
+    push_last(alloc, ordered, set, said);
+    Ok(())
 }
 
 /// The first case of the table, which has sixty-five traces.
-pub fn first_case(alloc: Global) -> Result<String, AllocError> {
+pub fn first_case(alloc: Global) -> Said {
     let (short, _) = around(SPREADS, "%answer\n");
-    let mut row = String::new(alloc);
-    let mut case = String::new(alloc);
-    let _ = write_out(&mut row, short)?;
-    push_case(&mut case, row.as_str())?;
-    Ok(case)
+    let mut row = Said::new(alloc);
+    let mut case = Said::new(alloc);
+    let _ = write_out(&mut row, short);
+    push_case(&mut case, row.as_str());
+    case.cut_with(&row);
+    case
 }
 
 // `push_verdicts` for the first case.
-fn gated<R: Threads + Sync>(rt: &R, alloc: Global, gate: &Hold) -> Result<String, AllocError> {
-    let mut said = String::new(alloc);
-    let case = first_case(alloc)?;
+fn gated<R: Threads + Sync>(rt: &R, alloc: Global, gate: &Hold) -> Said {
+    let mut said = Said::new(alloc);
+    let case = first_case(alloc);
+    said.cut_with(&case);
     match &prepared(alloc, case.as_str(), "") {
-        Some((ordered, set)) => push_verdicts(rt, alloc, ordered, set, gate, &mut said)?,
-        None => said.push_str("refused")?,
+        Some((ordered, set)) => {
+            if push_verdicts(rt, alloc, ordered, set, gate, &mut said).is_err() {
+                said.cut();
+            }
+        }
+        None => said.push_str("refused"),
     }
-    Ok(said)
+    said
 }
 
 /// An implementation that runs all batches on one thread does not pass the gate.

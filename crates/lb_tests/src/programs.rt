@@ -1,7 +1,7 @@
 //! The rules of types, clocks and definitions, and of traces, one program a row.
 
 use crate::answers;
-use std::alloc::AllocError;
+use crate::texts::Said;
 use std::thread::Threads;
 
 /// The answer on a program of `NODES`, a front and an end. A program that keeps the rules is
@@ -10,15 +10,18 @@ pub fn push_answer<R: AllocGlobal + Threads + Sync>(
     rt: &R,
     front: &str,
     end: &str,
-    said: &mut String,
-) -> Result<(), AllocError> {
-    let case = format!(in rt.alloc(); "{NODES}{front}{end}")?;
-    answers::push_answer(rt, case.as_str(), "", said)?;
-    if said.starts_with("E14") {
+    said: &mut Said,
+) {
+    let mut case = Said::new(rt.alloc());
+    case.push_str(NODES);
+    case.push_str(front);
+    case.push_str(end);
+    said.cut_with(&case);
+    answers::push_answer(rt, case.as_str(), "", said);
+    if said.as_str().starts_with("E14") {
         said.clear();
-        return said.push_str("accepted");
+        said.push_str("accepted");
     }
-    Ok(())
 }
 
 /// A constant and nodes, which the nodes under test may use.

@@ -3,8 +3,7 @@
 
 use crate::rounds::{SUM, push_unlike_rounds, push_whole};
 use crate::sections::push_unlike_reads;
-use crate::texts::expect;
-use std::alloc::AllocError;
+use crate::texts::{Said, expect};
 use std::test::Fail;
 use std::thread::Threads;
 
@@ -41,27 +40,21 @@ impl Numbers {
 }
 
 // A record of a trace.
-fn push_record(
-    text: &mut String,
-    numbers: &mut Numbers,
-    trace: u64,
-    record: &str,
-) -> Result<(), AllocError> {
+fn push_record(text: &mut Said, numbers: &mut Numbers, trace: u64, record: &str) {
     let x = numbers.below(12);
     let c = numbers.below(2);
     for letter in record.chars() {
         match letter {
-            '#' => write!(text, "{trace}")?,
-            'x' => write!(text, "{x}")?,
-            'c' => write!(text, "{c}")?,
-            _ => text.push(letter)?,
+            '#' => write!(text, "{trace}"),
+            'x' => write!(text, "{x}"),
+            'c' => write!(text, "{c}"),
+            _ => text.push(letter),
         }
     }
-    Ok(())
 }
 
 // The end of a line.
-fn push_line_end(text: &mut String, numbers: &mut Numbers) -> Result<(), AllocError> {
+fn push_line_end(text: &mut Said, numbers: &mut Numbers) {
     text.push_str(match numbers.below(8) {
         0 => "\r\n",
         1 => "\n\n",
@@ -71,23 +64,17 @@ fn push_line_end(text: &mut String, numbers: &mut Numbers) -> Result<(), AllocEr
 }
 
 // A text of twenty records, one of which has a mistake.
-fn push_random(
-    text: &mut String,
-    numbers: &mut Numbers,
-    wrong: u64,
-    mistake: &str,
-) -> Result<(), AllocError> {
-    text.push_str("trace,x,c\n")?;
+fn push_random(text: &mut Said, numbers: &mut Numbers, wrong: u64, mistake: &str) {
+    text.push_str("trace,x,c\n");
     let mut trace = 0u64;
     for k in 0..20u64 {
         if numbers.below(3) == 0 {
             trace = trace.saturating_add(1);
         }
         let here = if k == wrong { mistake } else { RECORD };
-        push_record(text, numbers, trace, here)?;
-        push_line_end(text, numbers)?;
+        push_record(text, numbers, trace, here);
+        push_line_end(text, numbers);
     }
-    Ok(())
 }
 
 /// The answers on a random text, in rounds and in sections, that differ from that on the text as a
@@ -96,29 +83,29 @@ fn push_differing<R: AllocGlobal + Threads + Sync>(
     rt: &R,
     text: &[u8],
     first: usize,
-    unlike: &mut String,
-) -> Result<(), AllocError> {
-    let mut whole = String::new(rt.alloc());
-    push_whole(rt, SUM, text, &mut whole)?;
-    push_unlike_rounds(rt, SUM, text, first, whole.as_str(), unlike)?;
-    push_unlike_reads(rt, text, first, whole.as_str(), unlike)
+    unlike: &mut Said,
+) {
+    let mut whole = Said::new(rt.alloc());
+    push_whole(rt, SUM, text, &mut whole);
+    push_unlike_rounds(rt, SUM, text, first, whole.as_str(), unlike);
+    push_unlike_reads(rt, text, first, whole.as_str(), unlike);
 }
 
 /// The answers on random texts, with each mistake in each record, that differ in rounds or in
 /// sections.
-fn differing<R: AllocGlobal + Threads + Sync>(rt: &R) -> Result<String, AllocError> {
+fn differing<R: AllocGlobal + Threads + Sync>(rt: &R) -> Said {
     let mut numbers = Numbers { state: 47 };
-    let mut text = String::new(rt.alloc());
-    let mut unlike = String::new(rt.alloc());
+    let mut text = Said::new(rt.alloc());
+    let mut unlike = Said::new(rt.alloc());
     for mistake in MISTAKES {
         for wrong in 0..20u64 {
             text.clear();
-            push_random(&mut text, &mut numbers, wrong, mistake)?;
+            push_random(&mut text, &mut numbers, wrong, mistake);
             let first = numbers.below(200).saturating_add(1) as usize;
-            push_differing(rt, text.as_bytes(), first, &mut unlike)?;
+            push_differing(rt, text.as_str().as_bytes(), first, &mut unlike);
         }
     }
-    Ok(unlike)
+    unlike
 }
 
 #[test]

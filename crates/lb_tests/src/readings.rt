@@ -1,6 +1,6 @@
 //! Trace texts and the traces that are read of them, however records end and cells are written.
 
-use crate::texts::{around, is_same};
+use crate::texts::{Said, around, is_same};
 use lb_static::Signature;
 use lb_syntax::Kind;
 use lb_trace::{TraceError, read_loaded, read_traces, read_traces_by};
@@ -10,52 +10,53 @@ use std::thread::Threads;
 
 // The text that a row stands for: `/` is a line feed, `\` a carriage return, `'` the byte `"`, and
 // `^` the byte order mark.
-pub fn push_text(short: &str, text: &mut String) -> Result<(), AllocError> {
+pub fn push_text(short: &str, text: &mut Said) {
     for letter in short.chars() {
         match letter {
-            '/' => text.push('\n')?,
-            '\\' => text.push('\r')?,
-            '\'' => text.push('"')?,
-            '^' => text.push('\u{feff}')?,
-            _ => text.push(letter)?,
+            '/' => text.push('\n'),
+            '\\' => text.push('\r'),
+            '\'' => text.push('"'),
+            '^' => text.push('\u{feff}'),
+            _ => text.push(letter),
         }
     }
-    Ok(())
 }
 
 // The names of the traces, each with the cells of its instants.
-fn push_traces(alloc: Global, set: &TraceSet, said: &mut String) -> Result<(), AllocError> {
+fn push_traces(alloc: Global, set: &TraceSet, said: &mut Said) {
     let mut row = Vec::new(alloc);
     for k in 0..set.len() {
-        write!(said, "{}:", set.name(k))?;
+        write!(said, "{}:", set.name(k));
         for t in 0..set.length(k) {
-            said.push_str(" (")?;
+            said.push_str(" (");
             row.clear();
-            set.copy_row(k, t, &mut row)?;
-            for cell in row.as_slice() {
-                write!(said, " {cell}")?;
+            if set.copy_row(k, t, &mut row).is_err() {
+                said.cut();
             }
-            said.push_str(" )")?;
+            for cell in row.as_slice() {
+                write!(said, " {cell}");
+            }
+            said.push_str(" )");
         }
-        said.push_str(";")?;
+        said.push_str(";");
     }
-    Ok(())
 }
 
 // The traces that are read of a text under a signature, or its refusal.
 fn push_read(
     alloc: Global,
-    signature: &Signature,
+    signature: &Result<Signature, AllocError>,
     asked: &str,
-    said: &mut String,
-) -> Result<(), AllocError> {
-    let mut text = String::new(alloc);
-    push_text(asked, &mut text)?;
-    push_outcome(
-        alloc,
-        &read_traces(alloc, signature, text.as_str().as_bytes()),
-        said,
-    )
+    said: &mut Said,
+) {
+    let mut text = Said::new(alloc);
+    push_text(asked, &mut text);
+    match (signature, text.whole()) {
+        (Ok(signature), Ok(text)) => {
+            push_outcome(alloc, &read_traces(alloc, signature, text.as_bytes()), said)
+        }
+        _ => said.cut(),
+    }
 }
 
 // The signature of an integer `x` and a Boolean `c`.
@@ -66,26 +67,27 @@ fn two_columns(alloc: Global) -> Result<Signature, AllocError> {
     Ok(signature)
 }
 
-/// The traces of a text whose columns are an integer `x` and a Boolean `c`, or its refusal.
-pub fn push_answer(alloc: Global, asked: &str, said: &mut String) -> Result<(), AllocError> {
-    push_read(alloc, &two_columns(alloc)?, asked, said)
-}
-
-/// `push_answer` for a text whose columns are integers `x` and `y` and a Boolean `c`.
-pub fn push_three(alloc: Global, asked: &str, said: &mut String) -> Result<(), AllocError> {
+// The signature of integers `x` and `y` and a Boolean `c`.
+fn three_columns(alloc: Global) -> Result<Signature, AllocError> {
     let mut signature = Signature::new(alloc);
     signature.push(String::from_str(alloc, "x")?, Kind::Int)?;
     signature.push(String::from_str(alloc, "y")?, Kind::Int)?;
     signature.push(String::from_str(alloc, "c")?, Kind::Bool)?;
-    push_read(alloc, &signature, asked, said)
+    Ok(signature)
+}
+
+/// The traces of a text whose columns are an integer `x` and a Boolean `c`, or its refusal.
+pub fn push_answer(alloc: Global, asked: &str, said: &mut Said) {
+    push_read(alloc, &two_columns(alloc), asked, said);
+}
+
+/// `push_answer` for a text whose columns are integers `x` and `y` and a Boolean `c`.
+pub fn push_three(alloc: Global, asked: &str, said: &mut Said) {
+    push_read(alloc, &three_columns(alloc), asked, said);
 }
 
 // The traces that were read, or the refusal.
-fn push_outcome(
-    alloc: Global,
-    read: &Result<TraceSet, TraceError>,
-    said: &mut String,
-) -> Result<(), AllocError> {
+fn push_outcome(alloc: Global, read: &Result<TraceSet, TraceError>, said: &mut Said) {
     match read {
         Ok(set) => push_traces(alloc, set, said),
         Err(error) => write!(said, "E{} {error}", error.number()),
@@ -138,20 +140,20 @@ fn push_by_chunks<R: Threads + Sync>(
     alloc: Global,
     signature: &Signature,
     body: &[u8],
-    said: &mut String,
-) -> Result<(), AllocError> {
-    let mut other = String::new(alloc);
+    said: &mut Said,
+) {
+    let mut other = Said::new(alloc);
     for at in 0..body.len() {
         let Some(set) = &read_at(rt, alloc, signature, body, at) else {
             continue;
         };
         other.clear();
-        push_traces(alloc, set, &mut other)?;
+        push_traces(alloc, set, &mut other);
         if !is_same(other.as_str(), said.as_str()) {
-            return write!(said, " and cut at {at} {other}");
+            write!(said, " and cut at {at} {}", other.as_str());
+            return;
         }
     }
-    Ok(())
 }
 
 // Whether this number of workers read what stands in `said`. If not, what they read is added.
@@ -161,16 +163,16 @@ fn is_read_by<R: Threads + Sync>(
     signature: &Signature,
     body: &[u8],
     workers: u32,
-    said: &mut String,
-) -> Result<bool, AllocError> {
-    let mut other = String::new(alloc);
+    said: &mut Said,
+) -> bool {
+    let mut other = Said::new(alloc);
     let read = read_traces_by(rt, alloc, signature, body, workers);
-    push_outcome(alloc, &read, &mut other)?;
+    push_outcome(alloc, &read, &mut other);
     if is_same(other.as_str(), said.as_str()) {
-        return Ok(true);
+        return true;
     }
-    write!(said, " and with {workers} workers {other}")?;
-    Ok(false)
+    write!(said, " and with {workers} workers {}", other.as_str());
+    false
 }
 
 // The traces of a text, or its refusal, and the first reading that differs, by a number of workers
@@ -180,28 +182,27 @@ fn push_each_reading<R: Threads + Sync>(
     alloc: Global,
     signature: &Signature,
     body: &[u8],
-    said: &mut String,
-) -> Result<(), AllocError> {
-    push_outcome(alloc, &read_traces(alloc, signature, body), said)?;
+    said: &mut Said,
+) {
+    push_outcome(alloc, &read_traces(alloc, signature, body), said);
     for workers in 0..24u32 {
-        if !is_read_by(rt, alloc, signature, body, workers, said)? {
-            return Ok(());
+        if !is_read_by(rt, alloc, signature, body, workers, said) {
+            return;
         }
     }
-    push_by_chunks(rt, alloc, signature, body, said)
+    push_by_chunks(rt, alloc, signature, body, said);
 }
 
 /// `push_each_reading` for a text whose columns are an integer `x` and a Boolean `c`.
-pub fn push_by_workers<R: Threads + Sync>(
-    rt: &R,
-    alloc: Global,
-    asked: &str,
-    said: &mut String,
-) -> Result<(), AllocError> {
-    let mut text = String::new(alloc);
-    push_text(asked, &mut text)?;
-    let body = text.as_str().as_bytes();
-    push_each_reading(rt, alloc, &two_columns(alloc)?, body, said)
+pub fn push_by_workers<R: Threads + Sync>(rt: &R, alloc: Global, asked: &str, said: &mut Said) {
+    let mut text = Said::new(alloc);
+    push_text(asked, &mut text);
+    match (&two_columns(alloc), text.whole()) {
+        (Ok(signature), Ok(text)) => {
+            push_each_reading(rt, alloc, signature, text.as_bytes(), said)
+        }
+        _ => said.cut(),
+    }
 }
 
 // Records that end in each way, with and without an end of the last; empty lines; a byte order
@@ -275,26 +276,25 @@ trace,c,y,x,z/a,0,2,1,3/ => E14 the first record is not `trace` and the name of 
 // ## Booleans as bits
 
 // The words of the Booleans of each instant of each trace.
-fn push_words(set: &TraceSet, said: &mut String) -> Result<(), AllocError> {
+fn push_words(set: &TraceSet, said: &mut Said) {
     for k in 0..set.len() {
-        write!(said, "{}:", set.name(k))?;
+        write!(said, "{}:", set.name(k));
         for t in 0..set.length(k) {
-            said.push_str(" (")?;
+            said.push_str(" (");
             for word in set.bits(k, t, 1) {
-                write!(said, " {word}")?;
+                write!(said, " {word}");
             }
-            said.push_str(" )")?;
+            said.push_str(" )");
         }
-        said.push_str(";")?;
+        said.push_str(";");
     }
-    Ok(())
 }
 
 // Columns `c0`, `c1` and so on, of integers where a letter is `i` and of Booleans elsewhere, and
 // the header of their texts.
-fn signature_of(alloc: Global, kinds: &str, text: &mut String) -> Result<Signature, AllocError> {
+fn signature_of(alloc: Global, kinds: &str, text: &mut Said) -> Result<Signature, AllocError> {
     let mut signature = Signature::new(alloc);
-    text.push_str("trace")?;
+    text.push_str("trace");
     for letter in kinds.as_bytes() {
         let column = signature.len();
         if column < 1023 {
@@ -306,7 +306,7 @@ fn signature_of(alloc: Global, kinds: &str, text: &mut String) -> Result<Signatu
                 Kind::Bool
             };
             signature.push(name, kind)?;
-            write!(text, ",c{column}")?;
+            write!(text, ",c{column}");
         }
     }
     Ok(signature)
@@ -314,13 +314,16 @@ fn signature_of(alloc: Global, kinds: &str, text: &mut String) -> Result<Signatu
 
 /// The bits that are kept of the Booleans of some records, which stand behind the kinds of their
 /// columns.
-pub fn push_bits(alloc: Global, asked: &str, said: &mut String) -> Result<(), AllocError> {
+pub fn push_bits(alloc: Global, asked: &str, said: &mut Said) {
     let (kinds, records) = around(asked, " ");
-    let mut text = String::new(alloc);
-    let signature = signature_of(alloc, kinds, &mut text)?;
+    let mut text = Said::new(alloc);
+    let Ok(signature) = signature_of(alloc, kinds, &mut text) else {
+        return said.cut();
+    };
     for record in records.split(' ') {
-        write!(text, "\n{record}")?;
+        write!(text, "\n{record}");
     }
+    said.cut_with(&text);
     match &read_traces(alloc, &signature, text.as_str().as_bytes()) {
         Ok(set) => push_words(set, said),
         Err(error) => write!(said, "E{} {error}", error.number()),

@@ -1,17 +1,17 @@
 //! Case texts in their two parts, statuses and options.
 
-use crate::texts::expect;
+use crate::texts::{Said, expect};
 use lb_check::Verdict;
 use lb_report::{Options, split_case, status};
 use std::alloc::{AllocError, Global};
 use std::test::Fail;
 
 /// The source and the traces of a case text, each with a `|` at its end.
-pub fn push_parts(case: &str, said: &mut String) -> Result<(), AllocError> {
+pub fn push_parts(case: &str, said: &mut Said) {
     let (source, traces) = split_case(case.as_bytes());
     let source = std::str::from_utf8(source).unwrap_or("no text");
     let traces = std::str::from_utf8(traces).unwrap_or("no text");
-    write!(said, "{source}|{traces}|")
+    write!(said, "{source}|{traces}|");
 }
 
 /// Case texts and their parts.
@@ -49,33 +49,33 @@ a
  => ||";
 
 // The statuses of some verdicts, and the parts of options.
-fn told(alloc: Global) -> Result<String, AllocError> {
-    let mut said = String::new(alloc);
+fn told(alloc: Global) -> Result<Said, AllocError> {
+    let mut said = Said::new(alloc);
     for verdict in [
         Verdict::Passed,
         Verdict::Assertion(0),
         Verdict::Fault(1999999999),
         Verdict::Undefined(0),
     ] {
-        write!(said, "{} ", status(&[verdict]))?;
+        write!(said, "{} ", status(&[verdict]));
     }
     let options = Options::new(String::from_str(alloc, "main")?, None, 1, 64, true);
-    push_options(&options, &mut said)?;
+    push_options(&options, &mut said);
     Ok(said)
 }
 
-fn push_options(options: &Options, said: &mut String) -> Result<(), AllocError> {
+fn push_options(options: &Options, said: &mut Said) {
     let observer = options.observer_name().unwrap_or("alone");
     let (workers, batch, by_length) = (options.workers, options.batch, options.by_length);
     write!(
         said,
         "{} {observer} {workers} {batch} {by_length}",
         options.node
-    )
+    );
 }
 
 #[test]
 fn statuses_and_options(rt: HostRuntime) -> Result<(), Fail> {
     assert!(rt; status(&[]) == 0);
-    expect(&told(rt.alloc()), "0 0 1 1 main alone 1 64 true")
+    expect(&told(rt.alloc())?, "0 0 1 1 main alone 1 64 true")
 }

@@ -3,9 +3,8 @@
 
 use crate::answers::{push_refusal, spread};
 use crate::readings::push_text;
-use crate::texts::{around, expect, push_unlike};
+use crate::texts::{Said, around, expect, push_unlike};
 use lb_report::{BenchError, FeedFault, LoadError, Reader, Report, Sizes, bench, bench_feed};
-use std::alloc::AllocError;
 use std::io::{ErrorKind, Read};
 use std::test::Fail;
 use std::thread::Threads;
@@ -82,16 +81,16 @@ impl Read for Pieces<'_> {
 }
 
 /// The lines of a report in one line.
-pub fn push_report(said: &mut String, report: &Report) -> Result<(), AllocError> {
+pub fn push_report(said: &mut Said, report: &Report) {
     let text = std::str::from_utf8(report.text.as_slice()).unwrap_or("no text");
     for line in text.split_terminator('\n') {
-        write!(said, "{line}; ")?;
+        write!(said, "{line}; ");
     }
-    write!(said, "status {}", report.status)
+    write!(said, "status {}", report.status);
 }
 
 /// The cause for which there is no report, with the record where that is known.
-pub fn push_cause(said: &mut String, cause: &BenchError) -> Result<(), AllocError> {
+pub fn push_cause(said: &mut Said, cause: &BenchError) {
     match cause {
         BenchError::Trace(cause) => write!(said, "E{} {cause}", cause.number()),
         other => push_refusal(said, other),
@@ -99,7 +98,7 @@ pub fn push_cause(said: &mut String, cause: &BenchError) -> Result<(), AllocErro
 }
 
 /// The answer on a text as a whole, in one line.
-fn push_answered(said: &mut String, answer: &Result<Report, BenchError>) -> Result<(), AllocError> {
+fn push_answered(said: &mut Said, answer: &Result<Report, BenchError>) {
     match answer {
         Ok(report) => push_report(said, report),
         Err(cause) => push_cause(said, cause),
@@ -107,8 +106,8 @@ fn push_answered(said: &mut String, answer: &Result<Report, BenchError>) -> Resu
 }
 
 /// `push_answered` for an answer that is then dropped.
-fn push_answer(said: &mut String, answer: Result<Report, BenchError>) -> Result<(), AllocError> {
-    push_answered(said, &answer)
+fn push_answer(said: &mut Said, answer: Result<Report, BenchError>) {
+    push_answered(said, &answer);
 }
 
 /// The answer on a source and a text as a whole.
@@ -116,14 +115,16 @@ pub fn push_whole<R: AllocGlobal + Threads + Sync>(
     rt: &R,
     source: &str,
     text: &[u8],
-    said: &mut String,
-) -> Result<(), AllocError> {
-    let options = spread(rt.alloc(), 1, 64, false)?;
-    push_answer(said, bench(rt, source.as_bytes(), text, &options))
+    said: &mut Said,
+) {
+    match spread(rt.alloc(), 1, 64, false) {
+        Ok(options) => push_answer(said, bench(rt, source.as_bytes(), text, &options)),
+        Err(_) => said.cut(),
+    }
 }
 
 /// The answer on a feed or a file, in one line.
-fn push_judgement(said: &mut String, found: &Result<Report, FeedFault>) -> Result<(), AllocError> {
+fn push_judgement(said: &mut Said, found: &Result<Report, FeedFault>) {
     match found {
         Ok(report) => push_report(said, report),
         Err(FeedFault::Refused(cause)) => push_cause(said, cause),
@@ -133,8 +134,8 @@ fn push_judgement(said: &mut String, found: &Result<Report, FeedFault>) -> Resul
 }
 
 /// `push_judgement` for an answer that is then dropped.
-pub fn push_found(said: &mut String, found: Result<Report, FeedFault>) -> Result<(), AllocError> {
-    push_judgement(said, &found)
+pub fn push_found(said: &mut Said, found: Result<Report, FeedFault>) {
+    push_judgement(said, &found);
 }
 
 /// The answer on a source and a feed, if it is not `wanted`. `run` is the number of workers and the
@@ -145,16 +146,18 @@ fn push_unlike_feed<R: AllocGlobal + Threads + Sync>(
     pieces: Pieces<'_>,
     run: (u32, Sizes),
     wanted: &str,
-    unlike: &mut String,
-) -> Result<(), AllocError> {
+    unlike: &mut Said,
+) {
     let (workers, sizes) = run;
     let first = pieces.first;
-    let options = spread(rt.alloc(), workers, 64, false)?;
-    let mut said = String::new(rt.alloc());
+    let Ok(options) = spread(rt.alloc(), workers, 64, false) else {
+        return unlike.cut();
+    };
+    let mut said = Said::new(rt.alloc());
     let mut feed = Reader::new(pieces);
     let found = bench_feed(rt, source.as_bytes(), &mut feed, &options, sizes);
-    push_found(&mut said, found)?;
-    push_unlike(wanted, said.as_str(), workers, first, unlike)
+    push_found(&mut said, found);
+    push_unlike(wanted, &said, workers, first, unlike);
 }
 
 /// The answers in rounds that are not `wanted`, on a text that is cut at byte `first`: by one
@@ -166,14 +169,14 @@ pub fn push_unlike_rounds<R: AllocGlobal + Threads + Sync>(
     text: &[u8],
     first: usize,
     wanted: &str,
-    unlike: &mut String,
-) -> Result<(), AllocError> {
+    unlike: &mut Said,
+) {
     for sizes in SIZES {
         let pieces = Pieces::new(text, first);
-        push_unlike_feed(rt, source, pieces, (1, sizes), wanted, unlike)?;
+        push_unlike_feed(rt, source, pieces, (1, sizes), wanted, unlike);
     }
     let run = (WORKERS[first % 4], SIZES[first % 3]);
-    push_unlike_feed(rt, source, Pieces::new(text, first), run, wanted, unlike)
+    push_unlike_feed(rt, source, Pieces::new(text, first), run, wanted, unlike);
 }
 
 /// A node that sums its input over the instants of a trace.
@@ -184,28 +187,23 @@ let n = (0 -> pre n) + x; ok = n < 40 or c; tel";
 
 /// The answer on a text as a whole, and the answers that differ in rounds, cut at each of its
 /// bytes.
-fn push_cuts<R: AllocGlobal + Threads + Sync>(
-    rt: &R,
-    text: &[u8],
-    said: &mut String,
-) -> Result<(), AllocError> {
-    push_whole(rt, SUM, text, said)?;
-    let mut unlike = String::new(rt.alloc());
+fn push_cuts<R: AllocGlobal + Threads + Sync>(rt: &R, text: &[u8], said: &mut Said) {
+    push_whole(rt, SUM, text, said);
+    let mut unlike = Said::new(rt.alloc());
     for first in 0..text.len() {
-        push_unlike_rounds(rt, SUM, text, first, said.as_str(), &mut unlike)?;
+        push_unlike_rounds(rt, SUM, text, first, said.as_str(), &mut unlike);
     }
-    said.push_str(unlike.as_str())
+    said.push_said(&unlike);
 }
 
 /// `push_cuts` for a text whose columns are an integer `x` and a Boolean `c`.
-pub fn push_cut<R: AllocGlobal + Threads + Sync>(
-    rt: &R,
-    asked: &str,
-    said: &mut String,
-) -> Result<(), AllocError> {
-    let mut text = String::new(rt.alloc());
-    push_text(asked, &mut text)?;
-    push_cuts(rt, text.as_str().as_bytes(), said)
+pub fn push_cut<R: AllocGlobal + Threads + Sync>(rt: &R, asked: &str, said: &mut Said) {
+    let mut text = Said::new(rt.alloc());
+    push_text(asked, &mut text);
+    match text.whole() {
+        Ok(text) => push_cuts(rt, text.as_bytes(), said),
+        Err(_) => said.cut(),
+    }
 }
 
 // Texts of twenty records. One trace, twenty and two; a fault; lines that end in each way, and
@@ -255,27 +253,22 @@ fn push_first_cuts<R: AllocGlobal + Threads + Sync>(
     rt: &R,
     source: &str,
     text: &[u8],
-    unlike: &mut String,
-) -> Result<(), AllocError> {
-    let mut whole = String::new(rt.alloc());
-    push_whole(rt, source, text, &mut whole)?;
+    unlike: &mut Said,
+) {
+    let mut whole = Said::new(rt.alloc());
+    push_whole(rt, source, text, &mut whole);
     for first in 4..8usize {
-        push_unlike_rounds(rt, source, text, first, whole.as_str(), unlike)?;
+        push_unlike_rounds(rt, source, text, first, whole.as_str(), unlike);
     }
-    Ok(())
 }
 
 /// `push_first_cuts` for a case text, if its traces are short.
-pub fn push_case_in_rounds<R: AllocGlobal + Threads + Sync>(
-    rt: &R,
-    case: &str,
-    unlike: &mut String,
-) -> Result<(), AllocError> {
+pub fn push_case_in_rounds<R: AllocGlobal + Threads + Sync>(rt: &R, case: &str, unlike: &mut Said) {
     let (source, traces) = around(case, "%traces\n");
     if traces.len() > SHORT {
-        return Ok(());
+        return;
     }
-    push_first_cuts(rt, source, traces.as_bytes(), unlike)
+    push_first_cuts(rt, source, traces.as_bytes(), unlike);
 }
 
 /// The answers that are not E21 on feeds that fail behind each number of bytes of a text, by each
@@ -284,16 +277,15 @@ fn push_not_told<R: AllocGlobal + Threads + Sync>(
     rt: &R,
     source: &str,
     text: &[u8],
-    unlike: &mut String,
-) -> Result<(), AllocError> {
+    unlike: &mut Said,
+) {
     for count in 0..=text.len() {
         for workers in WORKERS {
             let pieces = Pieces::failing(text.get(..count).unwrap_or(text), count / 2);
             let run = (workers, SIZES[count % 3]);
-            push_unlike_feed(rt, source, pieces, run, "E21", unlike)?;
+            push_unlike_feed(rt, source, pieces, run, "E21", unlike);
         }
     }
-    Ok(())
 }
 
 /// Texts whose feed fails: one that is accepted, one that is refused, one with quotes.
@@ -311,14 +303,14 @@ const SOURCES: [&str; 3] = [
 ];
 
 /// The answers that are not E21 on feeds that fail.
-fn not_told<R: AllocGlobal + Threads + Sync>(rt: &R) -> Result<String, AllocError> {
-    let mut said = String::new(rt.alloc());
+fn not_told<R: AllocGlobal + Threads + Sync>(rt: &R) -> Said {
+    let mut said = Said::new(rt.alloc());
     for text in FAILING {
         for source in SOURCES {
-            push_not_told(rt, source, text.as_bytes(), &mut said)?;
+            push_not_told(rt, source, text.as_bytes(), &mut said);
         }
     }
-    Ok(said)
+    said
 }
 
 /// A feed that fails is E21, also where the texts before are refused, and gives no report.

@@ -1,24 +1,24 @@
 //! Case texts and the answers of the program: the report and the status, or the refusal.
 
 use crate::answers::push_refusal;
-use crate::texts::expect;
+use crate::texts::{Said, expect};
 use lb_report::BenchError;
 use lb_syntax::SyntaxError;
 use lb_trace::TraceError;
-use std::alloc::{AllocError, Global};
+use std::alloc::Global;
 use std::test::Fail;
 
 /// The refusals that no case has.
 // No text brings them about in little time.
-fn rare_refusals(alloc: Global) -> Result<String, AllocError> {
-    let mut said = String::new(alloc);
-    push_refusal(&mut said, &BenchError::Memory)?;
+fn rare_refusals(alloc: Global) -> Said {
+    let mut said = Said::new(alloc);
+    push_refusal(&mut said, &BenchError::Memory);
     push_refusal(
         &mut said,
         &BenchError::Trace(TraceError::Limit { record: None }),
-    )?;
-    push_refusal(&mut said, &BenchError::Syntax(SyntaxError::Memory))?;
-    Ok(said)
+    );
+    push_refusal(&mut said, &BenchError::Syntax(SyntaxError::Memory));
+    said
 }
 
 #[test]

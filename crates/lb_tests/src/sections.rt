@@ -4,9 +4,9 @@
 use crate::answers::spread;
 use crate::readings::push_text;
 use crate::rounds::{FAILING, SIZES, SUM, push_found};
-use crate::texts::{expect, is_same, push_unlike};
+use crate::texts::{Said, expect, is_same, push_unlike};
 use lb_report::{FilePlaces, PlacedFile, Sizes, TextPlaces, bench_ranges};
-use std::alloc::{AllocError, Global};
+use std::alloc::Global;
 use std::fs::{Metadata, OpenFile};
 use std::io::{Error, ErrorKind};
 use std::os::unix::fs::FileExt;
@@ -105,13 +105,15 @@ pub fn push_ranges<R, F>(
     file: &F,
     workers: u32,
     sizes: Sizes,
-    said: &mut String,
-) -> Result<(), AllocError>
+    said: &mut Said,
+)
 where
     R: AllocGlobal + Threads + Sync,
     F: PlacedFile + Sync,
 {
-    let options = spread(rt.alloc(), workers, 64, false)?;
+    let Ok(options) = spread(rt.alloc(), workers, 64, false) else {
+        return said.cut();
+    };
     match bench_ranges(rt, source.as_bytes(), file, &options, sizes) {
         None => said.push_str("as a whole"),
         Some(found) => push_found(said, found),
@@ -125,49 +127,45 @@ pub fn push_unlike_reads<R: AllocGlobal + Threads + Sync>(
     text: &[u8],
     most: usize,
     wanted: &str,
-    unlike: &mut String,
-) -> Result<(), AllocError> {
+    unlike: &mut Said,
+) {
     let (workers, sizes) = (WORKERS[most % 3], SIZES[most / 3 % 3]);
-    let mut said = String::new(rt.alloc());
+    let mut said = Said::new(rt.alloc());
     let file = Held::new(text, most);
-    push_ranges(rt, SUM, &FilePlaces::new(&file), workers, sizes, &mut said)?;
-    push_unlike(wanted, said.as_str(), workers, most, unlike)
+    push_ranges(rt, SUM, &FilePlaces::new(&file), workers, sizes, &mut said);
+    push_unlike(wanted, &said, workers, most, unlike);
 }
 
 /// The answer on a text in memory by two workers, and the answers that differ on a file by reads of
 /// each length below fifty.
-fn push_reads<R: AllocGlobal + Threads + Sync>(
-    rt: &R,
-    text: &[u8],
-    said: &mut String,
-) -> Result<(), AllocError> {
-    push_ranges(rt, SUM, &TextPlaces { text }, 2, SIZES[0], said)?;
-    let mut unlike = String::new(rt.alloc());
+fn push_reads<R: AllocGlobal + Threads + Sync>(rt: &R, text: &[u8], said: &mut Said) {
+    push_ranges(rt, SUM, &TextPlaces { text }, 2, SIZES[0], said);
+    let mut unlike = Said::new(rt.alloc());
     for most in 1..50usize {
-        push_unlike_reads(rt, text, most, said.as_str(), &mut unlike)?;
+        push_unlike_reads(rt, text, most, said.as_str(), &mut unlike);
     }
-    said.push_str(unlike.as_str())
+    said.push_said(&unlike);
 }
 
 /// `push_reads` for a file whose columns are an integer `x` and a Boolean `c`.
-pub fn push_sections<R: AllocGlobal + Threads + Sync>(
-    rt: &R,
-    asked: &str,
-    said: &mut String,
-) -> Result<(), AllocError> {
-    let mut text = String::new(rt.alloc());
-    push_text(asked, &mut text)?;
-    push_reads(rt, text.as_str().as_bytes(), said)
+pub fn push_sections<R: AllocGlobal + Threads + Sync>(rt: &R, asked: &str, said: &mut Said) {
+    let mut text = Said::new(rt.alloc());
+    push_text(asked, &mut text);
+    match text.whole() {
+        Ok(text) => push_reads(rt, text.as_bytes(), said),
+        Err(_) => said.cut(),
+    }
 }
 
 /// A text of `count` traces of one instant each. Their names are a letter and a number, and all
 /// lines are of one length.
-fn numbered_text(alloc: Global, letter: char, count: u32) -> Result<String, AllocError> {
-    let mut text = String::from_str(alloc, "trace,x,c\n")?;
+fn numbered_text(alloc: Global, letter: char, count: u32) -> Said {
+    let mut text = Said::new(alloc);
+    text.push_str("trace,x,c\n");
     for k in 0..count {
-        write!(text, "{letter}{k:05},{:02},1\n", k % 39)?;
+        write!(text, "{letter}{k:05},{:02},1\n", k % 39);
     }
-    Ok(text)
+    text
 }
 
 /// The number in a name, behind the letter `a` or `letter`.
@@ -201,15 +199,15 @@ fn is_whole_report<R: AllocGlobal + Threads + Sync>(
     letter: char,
     least: usize,
     workers: u32,
-) -> Result<bool, AllocError> {
+) -> bool {
     let sizes = Sizes {
         window: 1024,
         round: 1024,
         least: 1,
     };
-    let mut said = String::new(rt.alloc());
-    push_ranges(rt, SUM, &FilePlaces::new(file), workers, sizes, &mut said)?;
-    Ok(is_same(said.as_str(), "as a whole") || is_numbered(said.as_str(), letter, least))
+    let mut said = Said::new(rt.alloc());
+    push_ranges(rt, SUM, &FilePlaces::new(file), workers, sizes, &mut said);
+    said.whole().is_ok_and(|said| is_same(said, "as a whole") || is_numbered(said, letter, least))
 }
 
 /// The number of traces that a file has at first.
@@ -226,31 +224,31 @@ fn are_whole_reports<R: AllocGlobal + Threads + Sync>(
     letter: char,
     later: &[u8],
     least: usize,
-) -> Result<bool, AllocError> {
+) -> bool {
     for reads in 0..50u64 {
         for workers in [2, 7] {
             let file = Held::changing(text, Some(later), reads);
-            if !is_whole_report(rt, &file, letter, least, workers)? {
-                return Ok(false);
+            if !is_whole_report(rt, &file, letter, least, workers) {
+                return false;
             }
         }
     }
-    Ok(true)
+    true
 }
 
 /// The letters of the files on which a report is not whole.
-fn torn_reports<R: AllocGlobal + Threads + Sync>(rt: &R) -> Result<String, AllocError> {
-    let mut said = String::new(rt.alloc());
-    let text = numbered_text(rt.alloc(), 'a', LINES)?;
+fn torn_reports<R: AllocGlobal + Threads + Sync>(rt: &R) -> Said {
+    let mut said = Said::new(rt.alloc());
+    let text = numbered_text(rt.alloc(), 'a', LINES);
     for (letter, count) in LATER {
-        let later = numbered_text(rt.alloc(), letter, count)?;
+        let later = numbered_text(rt.alloc(), letter, count);
         let least = count.min(LINES) as usize;
-        let (text, later) = (text.as_bytes(), later.as_bytes());
-        if !are_whole_reports(rt, text, letter, later, least)? {
-            said.push(letter)?;
+        let (text, later) = (text.as_str().as_bytes(), later.as_str().as_bytes());
+        if !are_whole_reports(rt, text, letter, later, least) {
+            said.push(letter);
         }
     }
-    Ok(said)
+    said
 }
 
 /// Files that become another one between two reads: as long, longer, shorter and empty.
@@ -260,38 +258,29 @@ fn changing_files(rt: HostRuntime) -> Result<(), Fail> {
 }
 
 /// Whether a file with a failing read gives no report.
-fn is_failure_told<R: AllocGlobal + Threads + Sync>(
-    rt: &R,
-    file: &Held<'_>,
-    workers: u32,
-) -> Result<bool, AllocError> {
-    let mut said = String::new(rt.alloc());
-    push_ranges(
-        rt,
-        SUM,
-        &FilePlaces::new(file),
-        workers,
-        SIZES[1],
-        &mut said,
-    )?;
-    if is_same(said.as_str(), "E21") || is_same(said.as_str(), "as a whole") {
-        return Ok(true);
+fn is_failure_told<R: AllocGlobal + Threads + Sync>(rt: &R, file: &Held<'_>, workers: u32) -> bool {
+    let mut said = Said::new(rt.alloc());
+    let places = FilePlaces::new(file);
+    push_ranges(rt, SUM, &places, workers, SIZES[1], &mut said);
+    match said.whole() {
+        Ok("E21" | "as a whole") => true,
+        Ok(report) => !report.starts_with("E") && !file.has_changed(),
+        Err(_) => false,
     }
-    Ok(!said.as_str().starts_with("E") && !file.has_changed())
 }
 
 /// The numbers of reads after which reading fails, but a report is made.
-fn not_told<R: AllocGlobal + Threads + Sync>(rt: &R) -> Result<String, AllocError> {
-    let mut said = String::new(rt.alloc());
+fn not_told<R: AllocGlobal + Threads + Sync>(rt: &R) -> Said {
+    let mut said = Said::new(rt.alloc());
     for reads in 0..80u64 {
         for workers in [2, 7] {
             let file = Held::changing(FAILING[0].as_bytes(), None, reads);
-            if !is_failure_told(rt, &file, workers)? {
-                write!(said, "{reads} ")?;
+            if !is_failure_told(rt, &file, workers) {
+                write!(said, "{reads} ");
             }
         }
     }
-    Ok(said)
+    said
 }
 
 /// Files that cannot be read any more after some reads.

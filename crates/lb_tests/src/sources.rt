@@ -5,33 +5,29 @@
 //! the number of its instances and specializations, the nodes that are reached, and the scalar
 //! inputs.
 
-use crate::texts::{around, is_same, last_line, named};
+use crate::texts::{Said, around, is_same, last_line, named};
 use lb_check::{Checked, check};
 use lb_static::{Elab, StaticError, elaborate};
 use lb_syntax::{Source, SyntaxError, parse};
-use std::alloc::{AllocError, Global};
+use std::alloc::Global;
 
 /// `7 of 4: main f g | x: Int`
-fn push_program(elab: &Elab, said: &mut String) -> Result<(), AllocError> {
+fn push_program(elab: &Elab, said: &mut Said) {
     let instances = elab.table().instances.len();
     let specializations = elab.table().specializations.len();
-    write!(said, "{instances} of {specializations}:")?;
+    write!(said, "{instances} of {specializations}:");
     for node in &elab.reached().nodes {
-        write!(said, " {}", node.tree.name.as_str())?;
+        write!(said, " {}", node.tree.name.as_str());
     }
-    said.push_str(" |")?;
+    said.push_str(" |");
     let inputs = elab.signature();
     for i in 0..inputs.len() {
-        write!(said, " {}: {:?}", inputs.name(i), inputs.kind(i))?;
+        write!(said, " {}: {:?}", inputs.name(i), inputs.kind(i));
     }
-    Ok(())
 }
 
 /// The program of a node under test and its observer, or the refusal.
-fn push_elaborated(
-    said: &mut String,
-    elaborated: &Result<Elab, StaticError>,
-) -> Result<(), AllocError> {
+fn push_elaborated(said: &mut Said, elaborated: &Result<Elab, StaticError>) {
     match elaborated {
         Ok(elab) => push_program(elab, said),
         Err(error) => write!(said, "{error}"),
@@ -39,27 +35,17 @@ fn push_elaborated(
 }
 
 /// The answer on a tree.
-fn push_about(
-    alloc: Global,
-    source: &Source,
-    word: &str,
-    said: &mut String,
-) -> Result<(), AllocError> {
+fn push_about(alloc: Global, source: &Source, word: &str, said: &mut Said) {
     if is_same(word, "text") {
         let constants = source.constants.len();
         return write!(said, "{constants} constants, {} nodes", source.nodes.len());
     }
     let (node, observer) = around(word, ", ");
-    push_elaborated(said, &elaborate(alloc, source, node, named(observer)))
+    push_elaborated(said, &elaborate(alloc, source, node, named(observer)));
 }
 
 /// The answer on a text that was parsed.
-fn push_parsed(
-    alloc: Global,
-    parsed: &Result<Source, SyntaxError>,
-    word: &str,
-    said: &mut String,
-) -> Result<(), AllocError> {
+fn push_parsed(alloc: Global, parsed: &Result<Source, SyntaxError>, word: &str, said: &mut Said) {
     match parsed {
         Ok(source) => push_about(alloc, source, word, said),
         Err(error) => write!(said, "{error}"),
@@ -67,7 +53,7 @@ fn push_parsed(
 }
 
 /// The place at which a text is refused as E2, as `2:9`.
-fn push_refused(parsed: &Result<Source, SyntaxError>, said: &mut String) -> Result<(), AllocError> {
+fn push_refused(parsed: &Result<Source, SyntaxError>, said: &mut Said) {
     match parsed {
         Err(SyntaxError::Syntax { line, column }) => write!(said, "{line}:{column}"),
         _ => said.push_str("no place"),
@@ -75,20 +61,20 @@ fn push_refused(parsed: &Result<Source, SyntaxError>, said: &mut String) -> Resu
 }
 
 /// The place at which the text of a front and an end is refused as E2.
-pub fn push_place(
-    alloc: Global,
-    front: &str,
-    end: &str,
-    said: &mut String,
-) -> Result<(), AllocError> {
-    let text = format!(in alloc; "{front}{end}")?;
-    push_refused(&parse(alloc, text.as_str().as_bytes()), said)
+pub fn push_place(alloc: Global, front: &str, end: &str, said: &mut Said) {
+    let mut text = Said::new(alloc);
+    text.push_str(front);
+    text.push_str(end);
+    match text.whole() {
+        Ok(text) => push_refused(&parse(alloc, text.as_bytes()), said),
+        Err(_) => said.cut(),
+    }
 }
 
 /// The answer on a text, to the question in its last line.
-pub fn push_answer(alloc: Global, asked: &str, said: &mut String) -> Result<(), AllocError> {
+pub fn push_answer(alloc: Global, asked: &str, said: &mut Said) {
     let (text, word) = last_line(asked);
-    push_parsed(alloc, &parse(alloc, text.as_bytes()), word, said)
+    push_parsed(alloc, &parse(alloc, text.as_bytes()), word, said);
 }
 
 /// The program of a tree that keeps all rules, with `main` under test and perhaps an observer.

@@ -4,59 +4,86 @@
 //! is line and column, counted by hand. A path to an instance is the start and then the calls, with
 //! the index of an iterated call: `main > f 5:12[0]`.
 
-use crate::texts::{around, last_line, named};
+use crate::texts::{Said, around, last_line, named};
 use lb_static::{
-    CallCycle, CallPath, Elab, LimitFault, NameFault, NameRule, RangeFault, RootFault, Start,
-    StaticError, ValueFault, ValueRule, elaborate,
+    CallCycle, CallPath, CallStep, CycleCall, Elab, Limit, LimitFault, NameFault, NameRule,
+    RangeFault, RangeRole, RootFault, RootRule, Sought, Start, StaticError, ValueFault, ValueRule,
+    elaborate,
 };
-use lb_syntax::{BinaryOperator, line_column, parse};
-use std::alloc::{AllocError, Global};
+use lb_syntax::{BinaryOperator, Source, line_column, parse};
+use std::alloc::Global;
 
 /// `5:12`, line and column of an offset.
-fn push_place(text: &[u8], offset: u32, said: &mut String) -> Result<(), AllocError> {
+fn push_place(text: &[u8], offset: u32, said: &mut Said) {
     if text.len() >= u32::MAX as usize {
         return said.push_str("in a long text");
     }
     let place = line_column(text, offset);
-    write!(said, "{}:{}", place.line, place.column)
+    write!(said, "{}:{}", place.line, place.column);
 }
 
-/// `E4 5:12 x in main: unknown Value`
-fn push_name(text: &[u8], fault: &NameFault, said: &mut String) -> Result<(), AllocError> {
-    said.push_str("E4 ")?;
-    if let Some(offset) = fault.offset {
-        push_place(text, offset, said)?;
-        said.push(' ')?;
+/// The word for what an unknown name had to be.
+fn sought_word(sought: Sought) -> &'static str {
+    match sought {
+        Sought::Node => "Node",
+        Sought::Variable => "Variable",
+        Sought::Clock => "Clock",
+        Sought::Value => "Value",
+        Sought::Constant => "Constant",
     }
-    said.push_str(fault.name.as_str())?;
-    if let Some(node) = &fault.node {
-        write!(said, " in {}", node.as_str())?;
-    }
-    match fault.rule {
-        NameRule::Unknown(sought) => write!(said, ": unknown {sought:?}"),
+}
+
+/// `: unknown Value`
+fn push_name_rule(text: &[u8], rule: NameRule, said: &mut Said) {
+    match rule {
+        NameRule::Unknown(sought) => {
+            said.push_str(": unknown ");
+            said.push_str(sought_word(sought));
+        }
         NameRule::Doubled { first } => {
-            said.push_str(": doubled, first ")?;
-            push_place(text, first, said)
+            said.push_str(": doubled, first ");
+            push_place(text, first, said);
         }
         NameRule::Arguments { wanted, given } => write!(said, ": {wanted} wanted, {given} given"),
     }
 }
 
+/// `E4 5:12 x in main: unknown Value`
+fn push_name(text: &[u8], fault: &NameFault, said: &mut Said) {
+    said.push_str("E4 ");
+    if let Some(offset) = fault.offset {
+        push_place(text, offset, said);
+        said.push(' ');
+    }
+    said.push_str(fault.name.as_str());
+    if let Some(node) = &fault.node {
+        said.push_str(" in ");
+        said.push_str(node.as_str());
+    }
+    push_name_rule(text, fault.rule, said);
+}
+
+/// ` > f 5:12[0]`
+fn push_step(text: &[u8], step: &CallStep, said: &mut Said) {
+    said.push_str(" > ");
+    said.push_str(step.node.as_str());
+    said.push(' ');
+    push_place(text, step.offset, said);
+    if let Some(index) = step.index {
+        write!(said, "[{index}]");
+    }
+}
+
 /// ` | main > f 5:12[0]`
-fn push_path(text: &[u8], path: &CallPath, said: &mut String) -> Result<(), AllocError> {
-    said.push_str(" | ")?;
-    if path.start == Start::Observer {
-        said.push_str("observer ")?;
-    }
-    said.push_str(path.node.as_str())?;
+fn push_path(text: &[u8], path: &CallPath, said: &mut Said) {
+    said.push_str(match path.start {
+        Start::UnderTest => " | ",
+        Start::Observer => " | observer ",
+    });
+    said.push_str(path.node.as_str());
     for step in &path.steps {
-        write!(said, " > {} ", step.node.as_str())?;
-        push_place(text, step.offset, said)?;
-        if let Some(index) = step.index {
-            write!(said, "[{index}]")?;
-        }
+        push_step(text, step, said);
     }
-    Ok(())
 }
 
 /// The sign of an operator of static expressions.
@@ -71,69 +98,112 @@ fn sign(operator: BinaryOperator) -> &'static str {
     }
 }
 
-/// `E5 5:12 in main: 1 / 0 | main`
-fn push_value(text: &[u8], fault: &ValueFault, said: &mut String) -> Result<(), AllocError> {
-    said.push_str("E5 ")?;
-    push_place(text, fault.offset, said)?;
-    write!(said, " in {}: ", fault.node.as_str())?;
-    match &fault.rule {
+/// `1 / 0`
+fn push_value_rule(rule: &ValueRule, said: &mut Said) {
+    match rule {
         ValueRule::Operator {
             operator,
             left,
             right,
-        } => write!(said, "{left} {} {right}", sign(*operator))?,
-        ValueRule::Negation { operand } => write!(said, "- {operand}")?,
-        ValueRule::Constant { name } => write!(said, "{} needs itself", name.as_str())?,
+        } => write!(said, "{left} {} {right}", sign(*operator)),
+        ValueRule::Negation { operand } => write!(said, "- {operand}"),
+        ValueRule::Constant { name } => {
+            said.push_str(name.as_str());
+            said.push_str(" needs itself");
+        }
     }
-    push_path(text, &fault.path, said)
+}
+
+/// `E5 5:12 in main: `
+fn push_number(text: &[u8], number: &str, offset: u32, node: &str, said: &mut Said) {
+    said.push_str(number);
+    push_place(text, offset, said);
+    said.push_str(" in ");
+    said.push_str(node);
+    said.push_str(": ");
+}
+
+/// `E5 5:12 in main: 1 / 0 | main`
+fn push_value(text: &[u8], fault: &ValueFault, said: &mut Said) {
+    push_number(text, "E5 ", fault.offset, fault.node.as_str(), said);
+    push_value_rule(&fault.rule, said);
+    push_path(text, &fault.path, said);
+}
+
+/// The word for the purpose of a value.
+fn role_word(role: RangeRole) -> &'static str {
+    match role {
+        RangeRole::Size => "Size",
+        RangeRole::Index => "Index",
+        RangeRole::SliceStart => "SliceStart",
+        RangeRole::SliceEnd => "SliceEnd",
+        RangeRole::Elements => "Elements",
+    }
 }
 
 /// `E6 5:12 in main: Size 0 of 1..4096 | main`
-fn push_range(text: &[u8], fault: &RangeFault, said: &mut String) -> Result<(), AllocError> {
-    said.push_str("E6 ")?;
-    push_place(text, fault.offset, said)?;
-    write!(said, " in {}: ", fault.node.as_str())?;
-    let role = fault.role;
-    write!(
-        said,
-        "{role:?} {} of {}..{}",
-        fault.value, fault.least, fault.most
-    )?;
-    push_path(text, &fault.path, said)
+fn push_range(text: &[u8], fault: &RangeFault, said: &mut Said) {
+    push_number(text, "E6 ", fault.offset, fault.node.as_str(), said);
+    said.push_str(role_word(fault.role));
+    write!(said, " {} of {}..{}", fault.value, fault.least, fault.most);
+    push_path(text, &fault.path, said);
+}
+
+/// ` f 5:12`
+fn push_call(text: &[u8], call: &CycleCall, said: &mut Said) {
+    said.push(' ');
+    said.push_str(call.node.as_str());
+    said.push(' ');
+    push_place(text, call.offset, said);
 }
 
 /// `E7 f 5:12 g 6:12`
-fn push_cycle(text: &[u8], cycle: &CallCycle, said: &mut String) -> Result<(), AllocError> {
-    said.push_str("E7")?;
+fn push_cycle(text: &[u8], cycle: &CallCycle, said: &mut Said) {
+    said.push_str("E7");
     for call in &cycle.calls {
-        write!(said, " {} ", call.node.as_str())?;
-        push_place(text, call.offset, said)?;
+        push_call(text, call, said);
     }
-    Ok(())
+}
+
+/// The words for a rule of interfaces, behind the start that breaks it.
+fn rule_words(rule: RootRule) -> &'static str {
+    match rule {
+        RootRule::NoParameters => ": NoParameters",
+        RootRule::SizedTypes => ": SizedTypes",
+        RootRule::BaseClock => ": BaseClock",
+        RootRule::FewInputs => ": FewInputs",
+        RootRule::OneOutput => ": OneOutput",
+        RootRule::TruthOutput => ": TruthOutput",
+        RootRule::AsManyInputs => ": AsManyInputs",
+        RootRule::SameType => ": SameType",
+    }
 }
 
 /// `E8 5:12 x of main, UnderTest: BaseClock`
-fn push_root(text: &[u8], fault: &RootFault, said: &mut String) -> Result<(), AllocError> {
-    said.push_str("E8 ")?;
-    push_place(text, fault.offset, said)?;
-    let start = fault.start;
-    let rule = fault.rule;
-    let node = fault.node.as_str();
-    write!(
-        said,
-        " {} of {node}, {start:?}: {rule:?}",
-        fault.name.as_str()
-    )
+fn push_root(text: &[u8], fault: &RootFault, said: &mut Said) {
+    said.push_str("E8 ");
+    push_place(text, fault.offset, said);
+    said.push(' ');
+    said.push_str(fault.name.as_str());
+    said.push_str(" of ");
+    said.push_str(fault.node.as_str());
+    said.push_str(match fault.start {
+        Start::UnderTest => ", UnderTest",
+        Start::Observer => ", Observer",
+    });
+    said.push_str(rule_words(fault.rule));
 }
 
 /// `E12 Instances | main > f 5:12[4095]`
-fn push_limit(text: &[u8], fault: &LimitFault, said: &mut String) -> Result<(), AllocError> {
-    let limit = fault.limit;
-    write!(said, "E12 {limit:?}")?;
-    push_path(text, &fault.path, said)
+fn push_limit(text: &[u8], fault: &LimitFault, said: &mut Said) {
+    said.push_str(match fault.limit {
+        Limit::Instances => "E12 Instances",
+        Limit::Levels => "E12 Levels",
+    });
+    push_path(text, &fault.path, said);
 }
 
-fn push_error(text: &[u8], error: &StaticError, said: &mut String) -> Result<(), AllocError> {
+fn push_error(text: &[u8], error: &StaticError, said: &mut Said) {
     match error {
         StaticError::Memory => said.push_str("E0"),
         StaticError::Name(fault) => push_name(text, fault, said),
@@ -146,26 +216,26 @@ fn push_error(text: &[u8], error: &StaticError, said: &mut String) -> Result<(),
 }
 
 /// `accepted`, or the fault.
-fn push_elaborated(
-    text: &[u8],
-    elaborated: &Result<Elab, StaticError>,
-    said: &mut String,
-) -> Result<(), AllocError> {
+fn push_elaborated(text: &[u8], elaborated: &Result<Elab, StaticError>, said: &mut Said) {
     match elaborated {
         Ok(_) => said.push_str("accepted"),
         Err(error) => push_error(text, error, said),
     }
 }
 
-/// The fault of a text, with the node under test and the observer of its last line.
-pub fn push_answer(alloc: Global, asked: &str, said: &mut String) -> Result<(), AllocError> {
-    let (text, word) = last_line(asked);
+/// The fault of a program on a tree, with a node under test and perhaps an observer.
+fn push_fault(alloc: Global, text: &[u8], tree: &Source, word: &str, said: &mut Said) {
     let (node, observer) = around(word, ", ");
-    let text = text.as_bytes();
-    let Ok(tree) = &parse(alloc, text) else {
-        return said.push_str("no tree");
-    };
-    push_elaborated(text, &elaborate(alloc, tree, node, named(observer)), said)
+    push_elaborated(text, &elaborate(alloc, tree, node, named(observer)), said);
+}
+
+/// The fault of a text, with the node under test and the observer of its last line.
+pub fn push_answer(alloc: Global, asked: &str, said: &mut Said) {
+    let (text, word) = last_line(asked);
+    match &parse(alloc, text.as_bytes()) {
+        Ok(tree) => push_fault(alloc, text.as_bytes(), tree, word, said),
+        Err(_) => said.push_str("no tree"),
+    }
 }
 
 /// Names.

@@ -1,6 +1,6 @@
 //! Reading an input and writing an output, where they work and where they fail.
 
-use crate::texts::expect;
+use crate::texts::{Said, expect};
 use lb_report::{Feed, LoadError, Reader, Sent, Sink, Writer, load, send};
 use std::alloc::{AllocError, Global};
 use std::io::{ErrorKind, Read, Write};
@@ -83,26 +83,26 @@ fn is_refused(alloc: Global, fails_at: usize) -> bool {
     is_refused && feed.failures() == 1
 }
 
-/// The first length of an input that is not read whole, or that fails and is not refused. Nothing
-/// where there is none.
-fn first_wrong(alloc: Global) -> Result<String, AllocError> {
+/// The lengths of inputs that are not read whole, or that fail and are not refused.
+fn first_wrong(alloc: Global) -> Result<Said, AllocError> {
+    let mut said = Said::new(alloc);
     for length in WHOLE {
         let text = vec![in alloc; b'x'; length]?;
         if !is_whole(alloc, text.as_slice()) {
-            return format!(in alloc; "{length}");
+            write!(said, "{length} not whole ");
         }
     }
     for length in FAILING {
         if !is_refused(alloc, length) {
-            return format!(in alloc; "{length} and no more");
+            write!(said, "{length} and no more ");
         }
     }
-    Ok(String::new(alloc))
+    Ok(said)
 }
 
 #[test]
 fn inputs(rt: HostRuntime) -> Result<(), Fail> {
-    expect(&first_wrong(rt.alloc()), "")
+    expect(&first_wrong(rt.alloc())?, "")
 }
 
 /// The number of bytes that went out before the output failed, or none if all did, and the number
@@ -121,16 +121,17 @@ fn sent(bytes: &[u8], fails_at: u32, fails: Fails) -> (Option<usize>, u64) {
     (failed_after, sink.failures())
 }
 
-/// The first write whose failure is reported wrongly. Nothing where there is none.
-fn first_untold(alloc: Global) -> Result<String, AllocError> {
+/// The writes whose failure is reported wrongly.
+fn untold(alloc: Global) -> Said {
+    let mut said = Said::new(alloc);
     for k in 0..LINE.len() {
         for fails in [Fails::Interrupted, Fails::Full] {
             if sent(LINE, k as u32 + 1, fails) != (Some(k), 1) {
-                return format!(in alloc; "write {k}");
+                write!(said, "{k} ");
             }
         }
     }
-    Ok(String::new(alloc))
+    said
 }
 
 #[test]
@@ -139,5 +140,5 @@ fn outputs(rt: HostRuntime) -> Result<(), Fail> {
     assert!(rt; send(&mut Writer::new(&mut bytes), LINE).is_ok() && bytes.as_slice() == LINE);
     assert!(rt; sent(LINE, 0, Fails::Interrupted) == (None, 0));
     assert!(rt; sent(b"", 1, Fails::Full) == (None, 0));
-    expect(&first_untold(rt.alloc()), "")
+    expect(&untold(rt.alloc()), "")
 }

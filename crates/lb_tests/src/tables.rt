@@ -12,13 +12,13 @@
 //!
 //! `{2 x@, }` stands for `x0, x1, `, `{3 a}` for `aaa`, and `{1..2 x@ @, }` for `x1 1, x2 2, `.
 
-use crate::texts::{expect, is_same};
+use crate::texts::{Said, expect, is_same};
 use crate::{
     answers, batches, check_causes, cycles, elaboration, flat_causes, forms, hostile, lane_words,
     lanes, machine, offsets, pool, programs, random, readings, reports, rounds, runs, sections,
     source_places, source_texts, sources, static_causes,
 };
-use std::alloc::{AllocError, Global};
+use std::alloc::Global;
 use std::test::Fail;
 use std::thread::Threads;
 
@@ -258,15 +258,14 @@ static CASE_TABLES: [Table; 8] = [
 static LIMIT_TABLES: [Table; 1] = [(Asks::Cases, CASES, hostile::LIMITS)];
 
 /// The text `turn` once for each number from `first` up to `end`, with the number for each `@`.
-fn push_turns(row: &mut String, first: u32, end: u32, turn: &str) -> Result<(), AllocError> {
+fn push_turns(row: &mut Said, first: u32, end: u32, turn: &str) {
     for number in first..end {
         let mut pieces = turn.split('@');
-        row.push_str(pieces.next().unwrap_or(""))?;
+        row.push_str(pieces.next().unwrap_or(""));
         for piece in pieces {
-            write!(row, "{number}{piece}")?;
+            write!(row, "{number}{piece}");
         }
     }
-    Ok(())
 }
 
 /// The first number and the end of a range: 0 and 3 for `3`, 1 and 4 for `1..3`.
@@ -288,18 +287,18 @@ fn repeated(piece: &str) -> Option<((u32, u32), &str, &str)> {
 
 /// Writes `short` to `row` with all turns written out. Returns whether each brace has a number of
 /// turns.
-pub fn write_out(row: &mut String, short: &str) -> Result<bool, AllocError> {
+pub fn write_out(row: &mut Said, short: &str) -> bool {
     let mut pieces = short.split('{');
     row.clear();
-    row.push_str(pieces.next().unwrap_or(""))?;
+    row.push_str(pieces.next().unwrap_or(""));
     for piece in pieces {
         let Some(((first, end), turn, rest)) = repeated(piece) else {
-            return Ok(false);
+            return false;
         };
-        push_turns(row, first, end, turn)?;
-        row.push_str(rest)?;
+        push_turns(row, first, end, turn);
+        row.push_str(rest);
     }
-    Ok(true)
+    true
 }
 
 /// Traces that are judged round by round.
@@ -309,12 +308,7 @@ static ROUND_TABLES: [Table; 2] = [
 ];
 
 /// The answer to a question that one thread answers.
-fn push_alone(
-    alloc: Global,
-    asks: Alone<'_>,
-    asked: &str,
-    said: &mut String,
-) -> Result<(), AllocError> {
+fn push_alone(alloc: Global, asks: Alone<'_>, asked: &str, said: &mut Said) {
     match asks {
         Alone::Sources => sources::push_answer(alloc, asked, said),
         Alone::StaticCauses => static_causes::push_answer(alloc, asked, said),
@@ -346,8 +340,8 @@ fn push_answer<R: AllocGlobal + Threads + Sync>(
     rt: &R,
     asks: Asks<'_>,
     asked: &str,
-    said: &mut String,
-) -> Result<(), AllocError> {
+    said: &mut Said,
+) {
     match asks {
         Asks::Alone(alone) => push_alone(rt.alloc(), alone, asked, said),
         Asks::Cases => answers::push_case(rt, asked, said),
@@ -365,15 +359,15 @@ fn is_right<R: AllocGlobal + Threads + Sync>(
     rt: &R,
     table: Table,
     row: &str,
-    said: &mut String,
-) -> Result<bool, AllocError> {
+    said: &mut Said,
+) -> bool {
     let (asks, form, _) = table;
     said.clear();
     let Some((asked, wanted)) = row.rsplit_once(form.mark) else {
-        return Ok(false);
+        return false;
     };
-    push_answer(rt, asks, asked, said)?;
-    Ok(is_same(said.as_str(), wanted))
+    push_answer(rt, asks, asked, said);
+    is_same(said.as_str(), wanted)
 }
 
 /// Whether each row of a table has the wanted answer. The first that has not stays in `row`, with
@@ -381,32 +375,32 @@ fn is_right<R: AllocGlobal + Threads + Sync>(
 fn is_answered<R: AllocGlobal + Threads + Sync>(
     rt: &R,
     table: Table,
-    row: &mut String,
-    said: &mut String,
-) -> Result<bool, AllocError> {
+    row: &mut Said,
+    said: &mut Said,
+) -> bool {
     let (_, form, rows) = table;
     for short in rows.split(form.between) {
-        if !write_out(row, short)? || !is_right(rt, table, row.as_str(), said)? {
-            return Ok(false);
+        if !write_out(row, short) || !is_right(rt, table, row.as_str(), said) {
+            return false;
         }
     }
-    Ok(true)
+    true
 }
 
 /// The first row of some tables with a wrong answer, behind that answer. Nothing where there is
 /// none.
-fn first_wrong<R: AllocGlobal + Threads + Sync>(
-    rt: &R,
-    tables: &[Table],
-) -> Result<String, AllocError> {
-    let mut row = String::new(rt.alloc());
-    let mut said = String::new(rt.alloc());
+fn first_wrong<R: AllocGlobal + Threads + Sync>(rt: &R, tables: &[Table]) -> Said {
+    let mut row = Said::new(rt.alloc());
+    let mut said = Said::new(rt.alloc());
     for table in tables {
-        if !is_answered(rt, *table, &mut row, &mut said)? {
-            return format!(in rt.alloc(); "{said}, and not: {row}");
+        if !is_answered(rt, *table, &mut row, &mut said) {
+            write!(said, ", and not: {}", row.as_str());
+            return said;
         }
     }
-    Ok(String::new(rt.alloc()))
+    said.clear();
+    said.cut_with(&row);
+    said
 }
 
 #[test]
