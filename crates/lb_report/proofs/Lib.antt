@@ -16,6 +16,7 @@ pub mod Sectioning
 pub mod PartReads
 pub mod QuotedReads
 pub mod QuotedTexts
+pub mod PieceTexts
 pub mod RestReads
 pub mod PieceReads
 pub mod HeadReads

@@ -1,6 +1,6 @@
 -- Records with none before them, which are read round after round.
-use Rattle.std.proofs.Common.{ℕ, ◌≡◌, List, [], ◌∷◌, ◌++◌, Ok, refl, sym, ap, ◌∙◌, subst}
-use Rattle.std.proofs.Common.{append_assoc}
+use Rattle.std.proofs.Common.{ℕ, ◌≡◌, List, [], ◌∷◌, ◌++◌, Result, Ok, Err, refl, sym, ap, ◌∙◌, subst}
+use Rattle.std.proofs.Common.{append_assoc, IfOk, IfSome, IsOkAnd}
 use Rattle.std.proofs.lemmas.List.{append-nil}
 use Rattle.lb_static.specs.Signature.{Elements}
 use Rattle.lb_check.specs.declared.verdict.Verdict.{Verdict}
@@ -10,22 +10,22 @@ use Rattle.lb_trace.specs.declared.error.TraceError.{TraceError}
 use Rattle.lb_trace.specs.declared.roll.Roll.{Roll}
 use Rattle.lb_trace.specs.declared.table.ColumnTable.{ColumnTable}
 use Rattle.lb_trace.specs.Errors.{IsRefusal}
-use Rattle.lb_trace.specs.Lines.{after_line, record_of}
-use Rattle.lb_trace.specs.Plain.{plain_records}
+use Rattle.lb_trace.specs.Lines.{record_of}
 use Rattle.lb_trace.specs.Refusals.{then_read, with_record, with_records}
 use Rattle.lb_trace.specs.Rolls.{IsRoll, IsRollOf, RefusesRows}
 use Rattle.lb_trace.specs.RoundReaders.{IsRound}
-use Rattle.lb_trace.specs.Rounds.{StopsAt}
 use Rattle.lb_trace.specs.Spelling.{Record}
 use Rattle.lb_trace.specs.Tables.{IsColumnTable, columns_in}
 use Rattle.lb_trace.specs.declared.round.RoundReader.{RoundReader}
-use Rattle.lb_trace.proofs.PlainRecordings.{begun-more}
 use Rattle.lb_trace.proofs.Readings.{with_records-append}
 use Rattle.lb_trace.proofs.TextReadings.{joined_parts, part_spells, refused_behind}
 use Rattle.lb_trace.proofs.TextReadings.{refused_on, refused_one}
 use Rattle.lb_pool.specs.Correct.{AreVerdicts}
-use Rattle.lb_report.specs.JudgedParts.{AreJudgedTraces, IsJudgedPart, IsPartRead, IsState}
-use Rattle.lb_report.specs.JudgedParts.{IsStopped}
+use Rattle.lb_report.specs.JudgedParts.{AreJudgedTraces, HasRoll, IsHalt, IsJudgedPart}
+use Rattle.lb_report.specs.JudgedParts.{IsPartRead, IsState, IsStopped, RefusesNames}
+use Rattle.lb_report.specs.Pieces.{IsOpenRound}
+use Rattle.lb_report.specs.declared.rounds.Halt.{Halt}
+use Rattle.lb_report.specs.declared.rounds.Halt.TheVariants as halt
 use Rattle.lb_report.specs.declared.rounds.Judged.{Judged}
 use Rattle.lb_report.specs.declared.rounds.State.{State}
 use Rattle.lb_report.proofs.JudgedParts.{judged_more}
@@ -40,13 +40,19 @@ round_held elements set round is =
     ap (λ e. record { signature = e; traces = round.recorder.rows.traces }) is.signature
     ∙ ap (λ ts. record { signature = elements; traces = ts }) is.read
 
--- a roll and a round make a state
+-- a round with these traces goes together
+pub open_round : (elements : Elements) (set : Traces) (r : RoundReader)
+    → IsRound elements set r → IsOpenRound elements r
+open_round elements set r is = record { signature = is.signature; known = is.known }
+
+-- a roll, a round and a spare round make a state
 pub begun_state : (elements : Elements) (set : Traces) (s : State) → IsRoll s.judged.roll
-    → IsRound elements set s.round → IsState elements s
-begun_state elements set s roll round = record {
+    → IsRound elements set s.round → IfSome s.spare (λ r. r.recorder.rows.signature ≡ elements)
+    → IsState elements s
+begun_state elements set s roll round spare = record {
   roll = roll;
-  signature = round.signature;
-  known = round.known;
+  round = open_round elements set s.round round;
+  spare = spare;
 }
 
 -- where no traces are judged, no records are judged
@@ -107,6 +113,12 @@ unfolding with_records
 part_one p elements table rows r s next is same read kept =
     part_more p elements table rows (r ∷ []) s next is same
     (ap (then_read (λ ts. Ok ts)) read) kept
+
+-- what is known of a result that is there
+pub ok_both : {T E : Type 0} (r : Result T E) (P Q : T → Type 0) → IsOkAnd r P → IfOk r Q
+    → (x : T) × P x × Q x
+ok_both (Ok x) P Q one two = (x, one, two)
+ok_both (Err e) P Q one two = absurd one
 
 -- where the traces of the round are judged, all records read are judged
 pub part_settled : (p : FlatProgram) (elements : Elements) (table : ColumnTable)
@@ -213,12 +225,12 @@ stopped_refused elements table rows roll line e at columns refused =
     (refused_on elements (columns_in table) at.traces (r ∷ []) at.more e one))
 
 -- the traces of the round are refused behind those that are judged
-pub part_early : (p : FlatProgram) (elements : Elements) (table : ColumnTable)
+refused_early : (p : FlatProgram) (elements : Elements) (table : ColumnTable)
     (rows : List Record) (s : State) (set : Recording) (e : TraceError)
     → IsPartRead p elements table rows s → set ≡ s.round.recorder.rows
     → RefusesRows s.judged.roll set e
     → IsRefusal (with_records elements (columns_in table) [] rows) e
-part_early p elements table rows s set e is same refused =
+refused_early p elements table rows s set e is same refused =
     let whole : set ≡ record { signature = elements; traces = is.set } =
     same ∙ is.held in
     let here : RefusesRows s.judged.roll record { signature = elements; traces = is.set } e =
@@ -228,12 +240,21 @@ part_early p elements table rows s set e is same refused =
     (here (columns_in table) is.judged.traces is.part is.judged.judged.names
     (part_spells elements (columns_in table) is.part is.set is.read)))
 
--- the records of a piece are those added, the one that is not added, and those behind it
-pub stopped_rows : (elements : Elements) (columns : Record) (before after : Traces)
-    (text rest : List ℕ) (rows : List Record)
-    → (at : StopsAt elements columns before after text rest)
-    → rows ++ plain_records text
-    ≡ (rows ++ at.done) ++ record_of rest ∷ plain_records (after_line rest)
-stopped_rows elements columns before after text rest rows at =
-    ap (λ rs. rows ++ rs) (at.cut ∙ ap (λ rs. at.done ++ rs) (begun-more rest at.some))
-    ∙ sym (append_assoc rows at.done (record_of rest ∷ plain_records (after_line rest)))
+pub part_early : (p : FlatProgram) (elements : Elements) (table : ColumnTable)
+    (rows : List Record) (s : State) (set : Recording) (h : Halt)
+    → IsPartRead p elements table rows s → set ≡ s.round.recorder.rows
+    → RefusesNames s.judged.roll set h → IsHalt elements table rows h
+part_early p elements table rows s set (halt.Load e) is same refused = absurd refused
+part_early p elements table rows s set (halt.Refused e) is same refused = absurd refused
+part_early p elements table rows s set (halt.Early e) is same refused =
+    refused_early p elements table rows s set e is same refused
+part_early p elements table rows s set (halt.Stopped judged line) is same refused = absurd refused
+part_early p elements table rows s set halt.Quoted is same refused = absurd refused
+
+-- a halt by names keeps none
+pub early_roll : (roll : Roll) (set : Recording) (h : Halt) → RefusesNames roll set h → HasRoll h
+early_roll roll set (halt.Load e) refused = tt
+early_roll roll set (halt.Refused e) refused = tt
+early_roll roll set (halt.Early e) refused = tt
+early_roll roll set (halt.Stopped judged line) refused = absurd refused
+early_roll roll set halt.Quoted refused = tt

@@ -14,10 +14,11 @@ use Rattle.lb_trace.specs.Spelling.{Record}
 use Rattle.lb_trace.specs.Tables.{columns_in}
 use Rattle.lb_trace.specs.Texts.{IsFront}
 use Rattle.lb_trace.proofs.TextReadings.{head_outcome, refused_on}
-use Rattle.lb_report.specs.JudgedParts.{BeginsWith, HasHalted, HasRefused, HasRefusedText, IsHalt}
+use Rattle.lb_report.specs.JudgedParts.{HasHalted, HasRefused, HasRefusedText, IsHalt}
 use Rattle.lb_report.specs.JudgedParts.{IsHeadRead, IsJudgedPart, IsLastHalt, IsRestHalted}
 use Rattle.lb_report.specs.JudgedParts.{IsRestJudged, IsRestRead, IsRestRefused, IsTextJudged}
 use Rattle.lb_report.specs.JudgedParts.{IsTextRefused}
+use Rattle.lb_report.specs.Pieces.{BeginsWith}
 use Rattle.lb_report.specs.Windows.{HasRead, Left, text_in}
 use Rattle.lb_report.specs.declared.feed.LoadError.{LoadError}
 use Rattle.lb_report.specs.declared.rounds.Halt.{Halt}
@@ -25,17 +26,12 @@ use Rattle.lb_report.specs.declared.rounds.Halt.TheVariants as halt
 use Rattle.lb_report.specs.declared.rounds.Judged.{Judged}
 use Rattle.lb_report.specs.declared.rounds.State.{State}
 use Rattle.lb_report.specs.declared.window.Window.{Window}
+use Rattle.lb_report.proofs.PieceTexts.{begins_on, joined_text}
 use Rattle.lb_report.proofs.WindowReads.{fault_on, read_on}
 
 -- ## Two steps
 
--- where a text after one read is `front` and `rest`, a second read adds its bytes to `rest`
-pub joined_text : (first front rest one two : List ℕ) → first ++ one ≡ front ++ rest
-    → first ++ (one ++ two) ≡ front ++ (rest ++ two)
-joined_text first front rest one two is =
-    sym (append_assoc first one two) ∙ ap (λ t. t ++ two) is ∙ append_assoc front rest two
-
-pub front_rows : (front rest : List ℕ) (rows more : List Record) → IsFront front more
+front_rows : (front rest : List ℕ) (rows more : List Record) → IsFront front more
     → rows ++ records default_config (front ++ rest)
     ≡ (rows ++ more) ++ records default_config rest
 front_rows front rest rows more gives =
@@ -50,12 +46,12 @@ pub rest_on : (p : FlatProgram) (elements : Elements) (table : ColumnTable) (row
     → IsRestJudged p elements table rows a c x z j
 unfolding read_on
 rest_on p elements table rows a b c x y z s j at rest = record {
-  read = read_on a b c x y z at.read rest.read;
+  read = read_on a b c x y z at.text.read rest.read;
   over = rest.over;
   judged = subst (λ rs. IsJudgedPart p elements table rs j)
       (sym (ap (λ t. rows ++ records default_config t)
-      (joined_text (text_in a) at.front (text_in b) at.read.more rest.read.more at.taken)
-      ∙ front_rows at.front (text_in b ++ rest.read.more) rows at.more at.gives))
+      (joined_text (text_in a) at.text.front (text_in b) at.text.read.more rest.read.more at.text.taken)
+      ∙ front_rows at.text.front (text_in b ++ rest.read.more) rows at.more at.text.gives))
       rest.judged;
 }
 
@@ -67,19 +63,9 @@ halted_on : (p : FlatProgram) (elements : Elements) (table : ColumnTable) (rows 
     → HasHalted elements table rows a c x z h
 unfolding read_on
 halted_on p elements table rows a b c x y z s h at rest = record {
-  read = read_on a b c x y z at.read rest.read;
+  read = read_on a b c x y z at.text.read rest.read;
   more = at.more ++ rest.more;
-  begins = λ tail none.
-      let others = rest.begins tail none in (
-        others.0,
-        ap (records default_config)
-            (ap (λ t. t ++ tail)
-            (joined_text (text_in a) at.front (text_in b) at.read.more rest.read.more at.taken)
-            ∙ append_assoc at.front (text_in b ++ rest.read.more) tail)
-            ∙ at.gives.gives ((text_in b ++ rest.read.more) ++ tail)
-            ∙ ap (λ rs. at.more ++ rs) others.1
-            ∙ sym (append_assoc at.more rest.more others.0),
-      );
+  begins = begins_on a b c x y z at.more rest.more at.text rest.read rest.begins;
   halt = subst (λ rs. IsHalt elements table rs h) (append_assoc rows at.more rest.more) rest.halt;
 }
 
@@ -89,7 +75,7 @@ pub rest_halted_on : (p : FlatProgram) (elements : Elements) (table : ColumnTabl
     → IsRestHalted elements table (rows ++ at.more) b c y z h
     → IsRestHalted elements table rows a c x z h
 rest_halted_on p elements table rows a b c x y z s (halt.Load e) at rest =
-    fault_on a b x y z e at.read rest
+    fault_on a b x y z e at.text.read rest
 rest_halted_on p elements table rows a b c x y z s (halt.Refused e) at rest =
     halted_on p elements table rows a b c x y z s (halt.Refused e) at rest
 rest_halted_on p elements table rows a b c x y z s (halt.Early e) at rest =

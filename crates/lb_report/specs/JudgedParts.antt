@@ -1,9 +1,10 @@
 -- The records of a text that are read and judged so far.
 -- This file says what data of the program mean; no definition of the language stands on it.
-use Rattle.std.specs.Prelude.{ℕ, ◌≡◌, ◌≤◌, ◌⊎◌, List, [], ◌∷◌, ◌++◌, length, Bool, false, true, Ok}
+use Rattle.std.specs.Prelude.{ℕ, ◌≡◌, ◌≤◌, ◌⊎◌, List, [], ◌∷◌, ◌++◌, length, false, true}
+use Rattle.std.specs.Prelude.{Result, Ok, Err, IfSome}
 use Rattle.csv.specs.Reading.{default_config, records}
 use Rattle.lb_static.specs.Signature.{Elements}
-use Rattle.lb_traces.specs.Traces.{Traces}
+use Rattle.lb_traces.specs.Traces.{Recording, Traces}
 use Rattle.lb_flat.specs.declared.program.FlatProgram.{FlatProgram}
 use Rattle.lb_trace.specs.declared.error.TraceError.{TraceError}
 use Rattle.lb_trace.specs.declared.roll.Roll.{Roll}
@@ -11,15 +12,18 @@ use Rattle.lb_trace.specs.declared.table.ColumnTable.{ColumnTable}
 use Rattle.lb_trace.specs.Chunks.{is_ended}
 use Rattle.lb_trace.specs.Errors.{IsRefusal, error_number}
 use Rattle.lb_trace.specs.Lines.{record_of}
-use Rattle.lb_trace.specs.Mirrors.{knows}
 use Rattle.lb_trace.specs.Plain.{has_quote}
 use Rattle.lb_trace.specs.Refusals.{outcome, with_records}
-use Rattle.lb_trace.specs.Rolls.{IsRoll, IsRollOf}
+use Rattle.lb_trace.specs.Rolls.{IsRoll, IsRollOf, RefusesRows}
 use Rattle.lb_trace.specs.Spelling.{Record, records_of}
 use Rattle.lb_trace.specs.Tables.{columns_in}
-use Rattle.lb_trace.specs.Texts.{IsFront, IsHead}
+use Rattle.lb_trace.specs.Texts.{IsHead}
 use Rattle.lb_pool.specs.Correct.{AreVerdicts}
+use Rattle.lb_report.specs.Pieces.{BeginsWith, IsAllRead, IsFrontRead, IsOpenRound}
 use Rattle.lb_report.specs.Windows.{HasRead, HasTaken, IsLoadFault, IsWindow, Left, text_in}
+use Rattle.lb_report.specs.declared.feed.LoadError.{LoadError}
+use Rattle.lb_report.specs.declared.pieces.Cut.{Cut}
+use Rattle.lb_report.specs.declared.pieces.Cut.TheVariants as cut
 use Rattle.lb_report.specs.declared.rounds.Halt.{Halt}
 use Rattle.lb_report.specs.declared.rounds.Halt.TheVariants as halt
 use Rattle.lb_report.specs.declared.rounds.Judged.{Judged}
@@ -34,6 +38,20 @@ pub record AreJudgedTraces (p : FlatProgram) (elements : Elements) (traces : Tra
   pub names : IsRollOf elements j.roll traces
   pub verdicts : AreVerdicts p record { signature = elements; traces = traces } j.verdicts.items
 
+-- `next` names the traces of `roll`, and behind them those of `set`
+abbrev pub IsNamed : Roll → (set : Recording) → (next : Roll) → Type 0
+IsNamed roll set next =
+    (traces : Traces) → IsRollOf set.signature roll traces
+    → IsRollOf set.signature next (traces ++ set.traces)
+
+-- the records of the traces of `set` are refused behind those of `roll`
+abbrev pub RefusesNames : Roll → (set : Recording) → Halt → Type 0
+RefusesNames roll set (halt.Load e) = ⊥
+RefusesNames roll set (halt.Refused e) = ⊥
+RefusesNames roll set (halt.Early e) = RefusesRows roll set e
+RefusesNames roll set (halt.Stopped judged line) = ⊥
+RefusesNames roll set halt.Quoted = ⊥
+
 -- `rows`, with no records before them, have been read and judged
 pub record IsJudgedPart (p : FlatProgram) (elements : Elements) (table : ColumnTable)
     (rows : List Record) (j : Judged)
@@ -42,11 +60,11 @@ pub record IsJudgedPart (p : FlatProgram) (elements : Elements) (table : ColumnT
   pub read : with_records elements (columns_in table) [] rows ≡ Ok traces
   pub judged : AreJudgedTraces p elements traces j
 
--- a worker's names and rows go together
+-- the names and the rounds of a state go together
 pub record IsState (elements : Elements) (s : State) : Type 0 where
   pub roll : IsRoll s.judged.roll
-  pub signature : s.round.recorder.rows.signature ≡ elements
-  pub known : knows s.round.recorder.names s.round.recorder.rows.traces
+  pub round : IsOpenRound elements s.round
+  pub spare : IfSome s.spare (λ r. r.recorder.rows.signature ≡ elements)
 
 -- the first of `rows` have been judged, and the others have been read
 pub record IsPartRead (p : FlatProgram) (elements : Elements) (table : ColumnTable)
@@ -89,6 +107,10 @@ HasRoll (halt.Early e) = Unit {0}
 HasRoll (halt.Stopped judged line) = IsRoll judged.roll
 HasRoll halt.Quoted = Unit {0}
 
+-- memory ran out
+abbrev pub IsSpent : Halt → Type 0
+IsSpent h = (e : TraceError) × (h ≡ halt.Refused e) × (error_number e ≡ 0)
+
 -- why `rows`, with no records before them, are refused, where that is certain
 abbrev pub IsLastHalt : Elements → ColumnTable → List Record → Halt → Type 0
 IsLastHalt elements table rows (halt.Load e) = ⊥
@@ -97,12 +119,6 @@ IsLastHalt elements table rows (halt.Refused e) =
 IsLastHalt elements table rows (halt.Early e) = Unit {0}
 IsLastHalt elements table rows (halt.Stopped judged line) = Unit {0}
 IsLastHalt elements table rows halt.Quoted = Unit {0}
-
--- the records of `text` begin with `rows`, however the text goes on; it ends here where it is over
-abbrev pub BeginsWith : (over : Bool) → List ℕ → List Record → Type 0
-BeginsWith over text rows =
-    (tail : List ℕ) → (over ≡ true → tail ≡ [])
-    → (others : List Record) × (records default_config (text ++ tail) ≡ rows ++ others)
 
 -- all that a window and its feed had left has been read and judged behind `rows`
 pub record IsRestJudged (p : FlatProgram) (elements : Elements) (table : ColumnTable)
@@ -124,24 +140,24 @@ pub record IsPiecesJudged (p : FlatProgram) (elements : Elements) (table : Colum
 pub record IsRestRead (p : FlatProgram) (elements : Elements) (table : ColumnTable)
     (rows : List Record) (before after : Window) (old new : Left) (s : State)
     : Type 0 where
-  pub read : HasRead before after old new
-  pub front : List ℕ
-  pub taken : text_in before ++ read.more ≡ front ++ text_in after
-  pub plain : has_quote front ≡ false
   pub more : List Record
-  pub gives : IsFront front more
+  pub text : IsFrontRead before after old new more
   pub part : IsPartRead p elements table (rows ++ more) s
 
 -- all that a window and its feed had left has been read behind `rows`
 pub record IsRestDone (p : FlatProgram) (elements : Elements) (table : ColumnTable)
     (rows : List Record) (before after : Window) (old new : Left) (s : State)
     : Type 0 where
-  pub read : HasRead before after old new
-  pub over : after.is_over ≡ true
-  pub nothing : text_in after ≡ []
-  pub part : IsPartRead p elements table
-      (rows ++ records default_config (text_in before ++ read.more)) s
-  pub plain : has_quote (text_in before ++ read.more) ≡ false
+  pub more : List Record
+  pub text : IsAllRead before after old new more
+  pub part : IsPartRead p elements table (rows ++ more) s
+
+abbrev pub IsMoreRead :
+    FlatProgram → Elements → ColumnTable → List Record → (before after : Window)
+    → (old new : Left) → State → Type 0
+IsMoreRead p elements table rows before after old new s =
+    IsRestRead p elements table rows before after old new s
+    ⊎ IsRestDone p elements table rows before after old new s
 
 -- why the rest behind `rows` was not judged to its end
 pub record HasHalted (elements : Elements) (table : ColumnTable) (rows : List Record)
@@ -175,6 +191,24 @@ IsReading p elements table rows before after old new (reading.Quoted s) =
     IsRestRead p elements table rows before after old new s
 IsReading p elements table rows before after old new (reading.Halted h) =
     IsRestHalted elements table rows before after old new h
+
+-- why the text was not judged to its end, where reading into the round of `s` was cut
+abbrev pub IsReadingOf : FlatProgram → Elements → State → Cut → Reading → Type 0
+IsReadingOf p elements s (cut.Load e) r = r ≡ reading.Halted (halt.Load e)
+IsReadingOf p elements s (cut.Refused e) r = r ≡ reading.Halted (halt.Refused e)
+IsReadingOf p elements s (cut.Stopped line) r =
+    (h : Halt) × (r ≡ reading.Halted h) × HasRoll h
+    × ((table : ColumnTable) (rows more : List Record) → IsPartRead p elements table rows s
+    → IsHalt elements table (rows ++ record_of line.items ∷ more) h)
+IsReadingOf p elements s cut.Quoted r = r ≡ reading.Quoted s
+
+-- why the text was not judged to its end, where memory ran out and a read gave `r`
+abbrev pub IsOutOfMemory : (r : Result (Unit {0}) Cut) → Halt → Type 0
+IsOutOfMemory (Err (cut.Load e)) h = h ≡ halt.Load e
+IsOutOfMemory (Err (cut.Refused e)) h = IsSpent h
+IsOutOfMemory (Err (cut.Stopped line)) h = IsSpent h
+IsOutOfMemory (Err cut.Quoted) h = IsSpent h
+IsOutOfMemory (Ok x) h = IsSpent h
 
 -- a reading that met a quote can go on: its state and window are sound, and the feed did not fail
 abbrev pub IsReadOn : Elements → Window → (old new : Left) → Reading → Type 0

@@ -8,6 +8,7 @@ pub mod LiveReports
 pub mod Judging
 pub mod Feeds
 pub mod Windows
+pub mod Pieces
 pub mod JudgedParts
 pub mod FeedAnswers
 pub mod FeedJudging

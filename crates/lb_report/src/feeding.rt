@@ -31,8 +31,11 @@ pub struct Sizes {
     /// How many bytes are in memory, unless a trace is longer: of a text, and of each section of a
     /// file.
     pub window: usize,
-    /// How many bytes of rows a worker runs at once, about.
+    /// How many bytes of rows a worker has in memory, about, where it runs rounds of its own.
     pub round: usize,
+    /// How many bytes of rows a round has, about, that several workers run together. There are two
+    /// such rounds: one is run while the other is read.
+    pub shared: usize,
     /// The least size, in bytes, of a file that is read in sections.
     pub least: u64,
 }
@@ -44,6 +47,7 @@ impl Sizes {
         ensures window { result.window ≤ 1048576 }
         ensures filled { 4980736 ≤ result.round }
         ensures rounds { workers ≤ 4 → workers * result.round ≤ 19922944 }
+        ensures shared { (9437184 ≤ result.shared) × (result.shared ≤ 11534336) }
         ensures least { result.least ≡ 2097152 }
     {
         Sizes {
@@ -53,6 +57,11 @@ impl Sizes {
                 2 => 9 << 20,
                 3 => 6 << 20,
                 _ => 19 << 18,
+            },
+            shared: match workers {
+                2 => 9 << 20,
+                3 => 19 << 19,
+                _ => 11 << 20,
             },
             least: 1 << 21,
         }
@@ -84,11 +93,8 @@ impl From<LoadError> for FeedFault {
     }
 }
 
-/// A round that several workers run has the rows of all of them, but of this many at most.
-const MOST_ROUNDS: usize = 4;
-
-/// A round of so many bytes for a worker fills its lanes as it is: to pack its rows takes time, and
-/// gains nothing.
+/// A round of this many bytes fills a worker's lanes without packing. Packing takes time, so such a
+/// round keeps 32 bits for each integer.
 const ROOMY: usize = 16 << 20;
 
 /// The rounds in which the traces of a program are judged, each by `workers` workers.
@@ -105,10 +111,12 @@ fn rounds_of<'a, 'p>(
     ensures program { result.runner.program.now.program.now ≡ lanes.now.program.now }
 {
     let packs = sizes.round < ROOMY;
-    let bytes = row_bytes(&program.signature, packs).max(1);
-    let size = sizes
-        .round
-        .saturating_mul(MOST_ROUNDS.min(workers as usize));
+    let bytes = if workers == 1 {
+        sizes.round
+    } else {
+        sizes.shared
+    };
+    let row = row_bytes(&program.signature, packs).max(1);
     Rounds {
         alloc,
         signature: &program.signature,
@@ -116,8 +124,8 @@ fn rounds_of<'a, 'p>(
             program: lanes,
             lanes: options.batch,
         },
-        instants: (size / bytes).clamp(1, 4_000_000) as u32,
-        bytes: size,
+        instants: (bytes / row).clamp(1, 4_000_000) as u32,
+        bytes,
         packs,
         window: sizes.window,
         workers,
@@ -313,9 +321,9 @@ pub(crate) fn too_long() -> BenchError
 fn first_of(cause: BenchError, bytes: usize) -> BenchError
     ensures { result ≡ told_first cause bytes }
 {
-    match cause {
-        BenchError::Trace(cause) if bytes > MOST_BYTES && cause.number() != 0 => too_long(),
-        other => other,
+    match &cause {
+        BenchError::Trace(trace) if bytes > MOST_BYTES && trace.number() != 0 => too_long(),
+        _ => cause,
     }
 }
 

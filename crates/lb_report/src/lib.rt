@@ -9,10 +9,12 @@ mod file_chunks;
 mod judging;
 mod laws;
 mod live;
+mod pieces;
 mod placed;
 mod quoted;
 mod rounds;
 mod sections;
+mod turns;
 mod window;
 
 pub use answer::{bench, run_case};

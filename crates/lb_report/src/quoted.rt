@@ -346,9 +346,9 @@ impl Rounds<'_, '_> {
         }
         let State { judged, round, .. } = state;
         let Judged { roll, .. } = judged;
-        match roll.append(self.alloc, round.set()) {
+        match self.named(roll, round.set()) {
             Ok(roll) => Halt::Early(roll.refusal_of(self.alloc, table, entry)),
-            Err(cause) => Halt::Early(cause),
+            Err(halt) => halt,
         }
     }
 }

@@ -4,11 +4,18 @@
 //! feed -> window -> whole traces -> rows -> once they are many, run -> names and verdicts
 //! ```
 //!
-//! A round ends once it has enough instants or traces; then its traces are run, by one worker or by
-//! several side by side, and their rows are dropped. The name, the length and the verdict of each
-//! trace are kept.
+//! A round ends once it has enough instants or traces; then its traces are run, and their rows are
+//! dropped. The name, the length and the verdict of each trace are kept.
+//!
+//! ```text
+//! one worker        read 1 | run 1 | read 2 | run 2 | read 3 | run 3
+//! several           read 1 | read 2         | read 3         |
+//!                          | run 1          | run 2          | run 3
+//! ```
+//!
+//! Several workers run a round side by side, and meanwhile the next round is read.
 
-ghost use Rattle.std.specs.Prelude.{◌≡◌, ◌<◌, ◌≤◌};
+ghost use Rattle.std.specs.Prelude.{◌≡◌, ◌<◌, ◌≤◌, ◌++◌, IfOk, IsOkAnd};
 
 use crate::feed::{Feed, LoadError};
 use crate::window::Window;
@@ -17,8 +24,7 @@ use lb_pool::{NoGate, Plan, RoundRoom, SetRunner, run_workers};
 use lb_static::Signature;
 use lb_syntax::Kind;
 use lb_trace::{
-    ColumnTable, Roll, RoundReader, Stopped, TraceError, begin, first_line, has_line, header_len,
-    is_plain, strip_bom, whole_traces,
+    ColumnTable, Roll, RoundReader, TraceError, begin, header_len, is_plain, strip_bom,
 };
 use lb_traces::TraceSet;
 use std::alloc::{AllocError, Global};
@@ -103,8 +109,12 @@ impl From<LoadError> for Halt {
 #[derive(Drop)]
 pub(crate) struct State {
     pub(crate) judged: Judged,
+    /// What one worker needs to run traces.
     pub(crate) room: Option<RoundRoom>,
+    /// The traces that have been read and not run yet.
     pub(crate) round: RoundReader,
+    /// A round that was run, for more traces.
+    pub(crate) spare: Option<RoundReader>,
 }
 
 // How many bytes an integer of a row takes; where rows are packed, if it fits 16 bits.
@@ -126,8 +136,22 @@ pub(crate) fn row_bytes(signature: &Signature, packs: bool) -> usize {
     integer_bytes(packs) * integers + 8 * booleans.div_ceil(64)
 }
 
+/// The verdicts of some traces, and behind them those that others were found to have.
+pub(crate) fn joined(
+    verdicts: Vec<Verdict>,
+    found: Result<Vec<Verdict>, AllocError>,
+) -> Result<Vec<Verdict>, AllocError>
+    ensures { IfOk result (λ all.
+        IsOkAnd found (λ more. all.items ≡ verdicts.items ++ more.items)) }
+{
+    let mut all = verdicts;
+    let more = found?;
+    all.extend_from_slice(more.as_slice())?;
+    Ok(all)
+}
+
 impl Judged {
-    ghost use Rattle.std.specs.Prelude.{[], ◌++◌, IfErr, IfOk};
+    ghost use Rattle.std.specs.Prelude.{[], IfErr};
     ghost use Rattle.lb_static.specs.Signature.{Elements};
     ghost use Rattle.lb_traces.specs.Traces.{Traces};
     ghost use Rattle.lb_flat.specs.declared.program.FlatProgram.{FlatProgram};
@@ -166,12 +190,8 @@ impl Judged {
 }
 
 impl Rounds<'_, '_> {
-    ghost use Rattle.std.specs.Prelude.{◌≡◌, ◌⊎◌, ◌∷◌, ◌++◌, [], ℕ, List, false, true, length};
-    ghost use Rattle.std.specs.Prelude.{take, IfErr, IfOk, OnOk};
-    ghost use Rattle.csv.specs.Reading.{strip_bom};
-    ghost use Rattle.lb_trace.specs.Chunks.{is_ended};
+    ghost use Rattle.std.specs.Prelude.{◌∷◌, [], List, IfErr, OnOk};
     ghost use Rattle.lb_trace.specs.Lines.{record_of};
-    ghost use Rattle.lb_trace.specs.Plain.{plain_records};
     ghost use Rattle.lb_trace.specs.Rolls.{IsRoll};
     ghost use Rattle.lb_pool.specs.Correct.{AreVerdicts};
     ghost use Rattle.lb_trace.specs.RoundReaders.{IsRound};
@@ -179,17 +199,16 @@ impl Rounds<'_, '_> {
     ghost use Rattle.lb_trace.specs.Tables.{IsColumnTable};
     ghost use Rattle.lb_trace.specs.declared.table.ColumnTable.{ColumnTable as Table};
     ghost use Rattle.lb_report.specs.JudgedParts.{HasRoll, IsHalt, IsHeadHalted, IsHeadRead};
-    ghost use Rattle.lb_report.specs.JudgedParts.{IsJudgedPart, IsLastHalt};
-    ghost use Rattle.lb_report.specs.JudgedParts.{IsPartRead, IsPiecesJudged, IsReading, IsReadOn};
-    ghost use Rattle.lb_report.specs.JudgedParts.{IsRestDone, IsRestRead, IsState};
+    ghost use Rattle.lb_report.specs.JudgedParts.{IsJudgedPart, IsLastHalt, IsNamed, IsPartRead};
+    ghost use Rattle.lb_report.specs.JudgedParts.{IsPiecesJudged, IsReading, IsReadOn, IsState};
+    ghost use Rattle.lb_report.specs.JudgedParts.{RefusesNames};
     ghost use Rattle.lb_report.specs.declared.rounds.Halt.TheVariants.{Load};
     ghost use Rattle.lb_report.specs.declared.feed.LoadError.{LoadError};
     ghost use Rattle.lb_report.specs.Sections.{IsSetAside};
-    ghost use Rattle.lb_report.specs.Windows.{HasTaken, IsLoadFault, IsWindow, left};
-    ghost use Rattle.lb_report.specs.Windows.{text_in, turns_left};
+    ghost use Rattle.lb_report.specs.Windows.{IsWindow, left};
 
     /// An empty round with room for its cells and a quarter more.
-    fn new_round(&self) -> Result<RoundReader, AllocError>
+    pub(crate) fn new_round(&self) -> Result<RoundReader, AllocError>
         ensures { IfOk result (IsRound self.now.signature.now []) }
     {
         let cells = (self.instants as usize).saturating_mul(self.signature.len() as usize);
@@ -211,6 +230,7 @@ impl Rounds<'_, '_> {
             judged,
             room: None,
             round: self.new_round()?,
+            spare: None,
         })
     }
 
@@ -230,6 +250,20 @@ impl Rounds<'_, '_> {
         set.instants() >= self.instants || set.bytes() >= self.bytes || set.len() >= MOST_TRACES
     }
 
+    /// The verdicts of the traces of a round, in their order, by several workers.
+    pub(crate) fn run_side_by_side<R: Threads + Sync>(
+        &self,
+        rt: &R,
+        set: &TraceSet,
+    ) -> Result<Vec<Verdict>, AllocError>
+        ensures { IfOk result (λ verdicts.
+            AreVerdicts self.now.runner.program.now.program.now set.now verdicts.items) }
+    {
+        let (alloc, workers) = (self.alloc, self.workers);
+        let plan = Plan::by_length(alloc, set, self.runner.lanes)?;
+        run_workers(rt, alloc, self.runner.program, set, &plan, workers, &NoGate)
+    }
+
     /// The verdicts of the traces of a round, in their order.
     fn run<R: Threads + Sync>(
         &self,
@@ -240,30 +274,39 @@ impl Rounds<'_, '_> {
         ensures { IfOk result (λ verdicts.
             AreVerdicts self.now.runner.program.now.program.now set.now verdicts.items) }
     {
-        let (alloc, workers) = (self.alloc, self.workers);
-        if workers == 1 {
-            return self.runner.run(alloc, set, room);
+        if self.workers == 1 {
+            self.runner.run(self.alloc, set, room)
+        } else {
+            self.run_side_by_side(rt, set)
         }
-        let plan = Plan::by_length(alloc, set, self.runner.lanes)?;
-        run_workers(rt, alloc, self.runner.program, set, &plan, workers, &NoGate)
     }
 
-    /// Runs the traces of the round, and appends their names and verdicts to the others. Returns
-    /// the round too.
-    fn settle<R: Threads + Sync>(
-        &self,
-        rt: &R,
-        state: State,
-    ) -> Result<(Judged, Option<RoundRoom>, RoundReader), Halt>
+    /// The names of the traces so far, and behind them those of a set.
+    pub(crate) fn named(&self, roll: Roll, set: &TraceSet) -> Result<Roll, Halt>
+        requires { IsRoll roll }
+        ensures roll { IfOk result IsRoll }
+        ensures ok { IfOk result (IsNamed roll set.now) }
+        ensures err { IfErr result (RefusesNames roll set.now) }
+    {
+        match roll.append(self.alloc, set) {
+            Ok(roll) => Ok(roll),
+            Err(cause) => Err(Halt::Early(cause)),
+        }
+    }
+
+    /// Runs the traces of the round, and appends their names and verdicts to the others. The rows
+    /// of the round are left in it.
+    fn settle<R: Threads + Sync>(&self, rt: &R, state: State) -> Result<State, Halt>
         requires { IsState self.now.signature.now state }
-        ensures roll { IfOk result (λ found. IsRoll found.0.roll) }
-        ensures ok { IfOk result (λ found. (table : Table) → (rows : List Record)
+        ensures roll { IfOk result (λ next. IsRoll next.judged.roll) }
+        ensures ok { IfOk result (λ next. (table : Table) → (rows : List Record)
             → IsPartRead self.now.runner.program.now.program.now self.now.signature.now table
             rows state
             → IsJudgedPart self.now.runner.program.now.program.now self.now.signature.now table
-            rows found.0) }
-        ensures round { IfOk result (λ found.
-            found.2.recorder.rows.signature ≡ self.now.signature.now) }
+            rows next.judged) }
+        ensures round { IfOk result (λ next.
+            next.round.recorder.rows.signature ≡ self.now.signature.now) }
+        ensures spare { IfOk result (λ next. next.spare ≡ state.spare) }
         ensures err { IfErr result (λ halt. (table : Table) → (rows : List Record)
             → IsPartRead self.now.runner.program.now.program.now self.now.signature.now table
             rows state
@@ -274,16 +317,19 @@ impl Rounds<'_, '_> {
             judged,
             mut room,
             round,
+            spare,
         } = state;
-        let Judged { roll, mut verdicts } = judged;
+        let Judged { roll, verdicts } = judged;
         let set = round.set();
-        let roll = match roll.append(self.alloc, set) {
-            Ok(roll) => roll,
-            Err(cause) => return Err(Halt::Early(cause)),
-        };
-        let found = self.run(rt, set, &mut room)?;
-        verdicts.extend_from_slice(found.as_slice())?;
-        Ok((Judged { roll, verdicts }, room, round))
+        let roll = self.named(roll, set)?;
+        let found = self.run(rt, set, &mut room);
+        let verdicts = joined(verdicts, found)?;
+        Ok(State {
+            judged: Judged { roll, verdicts },
+            room,
+            round,
+            spare,
+        })
     }
 
     /// Runs the traces of the round by `settle`, and begins another round.
@@ -301,13 +347,9 @@ impl Rounds<'_, '_> {
             → IsHalt self.now.signature.now table rows halt) }
         ensures kept { IfErr result HasRoll }
     {
-        let (judged, room, mut round) = self.settle(rt, state)?;
-        round.clear();
-        Ok(State {
-            judged,
-            room,
-            round,
-        })
+        let mut next = self.settle(rt, state)?;
+        next.round.clear();
+        Ok(next)
     }
 
     /// `next_round` where the round is full, and else the state as it is.
@@ -347,38 +389,30 @@ impl Rounds<'_, '_> {
             → IsHalt self.now.signature.now table rows halt) }
         ensures kept { IfErr result HasRoll }
     {
-        let (judged, _room, _round) = self.settle(rt, state)?;
-        Ok(judged)
+        let settled = self.settle(rt, state)?;
+        Ok(settled.judged)
     }
 
-    /// The halt of a reading that stopped at a line.
-    fn stop(&self, state: State, stopped: Stopped<'_>) -> Halt
+    /// The halt of a reading that stopped at a record.
+    pub(crate) fn stop(&self, state: State, line: Vec<u8>) -> Halt
         requires { IsRoll state.judged.roll }
         ensures halt { (table : Table) → (rows more : List Record)
             → IsPartRead self.now.runner.program.now.program.now self.now.signature.now table
             rows state
-            → IsHalt self.now.signature.now table
-            (rows ++ record_of stopped.entry.rest.now ∷ more) result }
+            → IsHalt self.now.signature.now table (rows ++ record_of line.items ∷ more) result }
         ensures kept { HasRoll result }
     {
-        let Stopped { cause, rest } = stopped;
-        if cause.number() == 0 {
-            return Halt::Refused(cause);
-        }
-        let State {
-            judged,
-            room: _room,
-            round,
-        } = state;
+        let State { judged, round, .. } = state;
         let Judged { roll, verdicts } = judged;
-        let roll = match roll.append(self.alloc, round.set()) {
-            Ok(roll) => roll,
-            Err(cause) => return Halt::Early(cause),
-        };
-        let judged = Judged { roll, verdicts };
-        match first_line(rest).to_vec(self.alloc) {
-            Ok(record) => Halt::Stopped { judged, record },
-            Err(_) => Halt::from(AllocError),
+        match self.named(roll, round.set()) {
+            Ok(roll) => {
+                let judged = Judged { roll, verdicts };
+                Halt::Stopped {
+                    judged,
+                    record: line,
+                }
+            }
+            Err(halt) => halt,
         }
     }
 
@@ -437,124 +471,6 @@ impl Rounds<'_, '_> {
         Ok(table)
     }
 
-    /// Reads until the window begins with whole lines and one of them is not empty, or the feed is
-    /// over. Returns how many bytes these lines have, or all bytes of the window where the feed is
-    /// over.
-    fn first_piece<F: Feed>(&self, feed: &mut F, window: &mut Window) -> Result<usize, LoadError>
-        requires window { IsWindow window.old }
-        requires failures { F.failures feed.old < u64.MAX }
-        ensures window { OnOk result (IsWindow window.new) }
-        ensures taken { OnOk result (HasTaken window.old window.new
-            (left (F.coming feed.old) (F.given feed.old) (F.failures feed.old))
-            (left (F.coming feed.new) (F.given feed.new) (F.failures feed.new))) }
-        ensures within { IfOk result (λ count. count ≤ length (text_in window.new)) }
-        ensures whole { IfOk result (λ count.
-            window.new.is_over ≡ true → count ≡ length (text_in window.new)) }
-        ensures ended { IfOk result (λ count. window.new.is_over ≡ false
-            → is_ended (take count (text_in window.new)) ≡ true) }
-        ensures line { IfOk result (λ count. window.new.is_over ≡ false
-            → 0 < length (plain_records (strip_bom (take count (text_in window.new))))) }
-        ensures err { IfErr result (IsLoadFault window.old
-            (left (F.coming feed.old) (F.given feed.old) (F.failures feed.old))
-            (left (F.coming feed.new) (F.given feed.new) (F.failures feed.new))) }
-    {
-        window.fill(feed)?;
-        'pieces: loop {
-            let count = self.next_piece(feed, window)?;
-            if window.is_over() || has_line(strip_bom(&window.text()[..count])) {
-                return Ok(count);
-            }
-            window.fill(feed)?;
-        }
-    }
-
-    /// Reads until the window begins with whole traces, or the feed is over. Returns how many bytes
-    /// these traces have, or all bytes of the window where the feed is over.
-    pub(crate) fn next_piece<F: Feed>(
-        &self,
-        feed: &mut F,
-        window: &mut Window,
-    ) -> Result<usize, LoadError>
-        requires window { IsWindow window.old }
-        requires failures { F.failures feed.old < u64.MAX }
-        ensures window { OnOk result (IsWindow window.new) }
-        ensures taken { OnOk result (HasTaken window.old window.new
-            (left (F.coming feed.old) (F.given feed.old) (F.failures feed.old))
-            (left (F.coming feed.new) (F.given feed.new) (F.failures feed.new))) }
-        ensures within { IfOk result (λ count. count ≤ length (text_in window.new)) }
-        ensures whole { IfOk result (λ count.
-            window.new.is_over ≡ true → count ≡ length (text_in window.new)) }
-        ensures ended { IfOk result (λ count. window.new.is_over ≡ false
-            → is_ended (take count (text_in window.new)) ≡ true) }
-        ensures err { IfErr result (IsLoadFault window.old
-            (left (F.coming feed.old) (F.given feed.old) (F.failures feed.old))
-            (left (F.coming feed.new) (F.given feed.new) (F.failures feed.new))) }
-    {
-        'pieces: while !window.is_over() {
-            let count = whole_traces(window.text());
-            if count > 0 {
-                return Ok(count);
-            }
-            window.fill(feed)?;
-        }
-        Ok(window.text().len())
-    }
-
-    /// Adds the next whole traces of a feed to the round, or all that is left of the feed.
-    fn read_piece<F: Feed>(
-        &self,
-        feed: &mut F,
-        window: &mut Window,
-        table: &ColumnTable,
-        state: State,
-    ) -> Result<State, Reading>
-        requires window { IsWindow window.old }
-        requires failures { F.failures feed.old < u64.MAX }
-        requires table { IsColumnTable self.now.signature.now table.now }
-        requires state { IsState self.now.signature.now state }
-        ensures window { OnOk result (IsWindow window.new) }
-        ensures state { IfOk result (IsState self.now.signature.now) }
-        ensures ok { IfOk result (λ next. (rows : List Record)
-            → IsPartRead self.now.runner.program.now.program.now self.now.signature.now table.now
-            rows state
-            → IsRestRead self.now.runner.program.now.program.now self.now.signature.now table.now
-            rows window.old window.new
-            (left (F.coming feed.old) (F.given feed.old) (F.failures feed.old))
-            (left (F.coming feed.new) (F.given feed.new) (F.failures feed.new)) next
-            ⊎ IsRestDone self.now.runner.program.now.program.now self.now.signature.now table.now
-            rows window.old window.new
-            (left (F.coming feed.old) (F.given feed.old) (F.failures feed.old))
-            (left (F.coming feed.new) (F.given feed.new) (F.failures feed.new)) next) }
-        ensures failures { OnOk result (F.failures feed.new ≡ F.failures feed.old) }
-        ensures goes { OnOk result ((turns_left window.new < turns_left window.old)
-            ⊎ ((window.old.is_over ≡ true) × (text_in window.old ≡ []))) }
-        ensures err { IfErr result (λ reading. (rows : List Record)
-            → IsPartRead self.now.runner.program.now.program.now self.now.signature.now table.now
-            rows state
-            → IsReading self.now.runner.program.now.program.now self.now.signature.now table.now
-            rows window.old window.new
-            (left (F.coming feed.old) (F.given feed.old) (F.failures feed.old))
-            (left (F.coming feed.new) (F.given feed.new) (F.failures feed.new)) reading) }
-        ensures on { IfErr result (IsReadOn self.now.signature.now window.new
-            (left (F.coming feed.old) (F.given feed.old) (F.failures feed.old))
-            (left (F.coming feed.new) (F.given feed.new) (F.failures feed.new))) }
-    {
-        let mut state = state;
-        let count = match self.next_piece(feed, window) {
-            Ok(count) => count,
-            Err(cause) => return Err(Reading::Halted(Halt::Load(cause))),
-        };
-        let text = &window.text()[..count];
-        if !is_plain(text) {
-            return Err(Reading::Quoted(state));
-        }
-        if let Err(stopped) = state.round.add_lines(self.alloc, table, text) {
-            return Err(Reading::Halted(self.stop(state, stopped)));
-        }
-        window.let_go(count);
-        Ok(state)
-    }
-
     /// Judges the traces of a feed behind its header up to its end, or to the first piece that has
     /// a quote.
     pub(crate) fn judge_pieces<R: Threads + Sync, F: Feed>(
@@ -589,10 +505,9 @@ impl Rounds<'_, '_> {
             (left (F.coming feed.old) (F.given feed.old) (F.failures feed.old))
             (left (F.coming feed.new) (F.given feed.new) (F.failures feed.new))) }
     {
-        let mut state = self.read_piece(feed, window, table, begun)?;
-        'pieces: while !window.is_done() {
-            state = self.with_room(rt, state)?;
-            state = self.read_piece(feed, window, table, state)?;
+        let mut state = self.read_on(feed, window, table, begun)?;
+        'rounds: while !window.is_done() {
+            state = self.turn(rt, feed, window, table, state)?;
         }
         Ok(self.last_round(rt, state)?)
     }
@@ -632,6 +547,18 @@ pub(crate) enum Reading {
     /// The next piece has a quote.
     Quoted(State),
     Halted(Halt),
+}
+
+impl From<AllocError> for Reading {
+    ghost use Rattle.lb_report.specs.declared.rounds.Halt.TheVariants.{Refused};
+    ghost use Rattle.lb_report.specs.declared.rounds.Reading.TheVariants.{Halted};
+    ghost use Rattle.lb_trace.specs.declared.error.TraceError.TheVariants.{Memory};
+
+    ghost from_gives = { λ cause e. e ≡ Halted (Refused (Memory cause)) };
+
+    fn from(cause: AllocError) -> Reading {
+        Reading::Halted(Halt::from(cause))
+    }
 }
 
 impl From<Halt> for Reading {

@@ -15,16 +15,19 @@ pub const SIZES: [Sizes; 3] = [
     Sizes {
         window: 1,
         round: 1,
+        shared: 1,
         least: 1,
     },
     Sizes {
         window: 9,
         round: 36,
+        shared: 36,
         least: 1,
     },
     Sizes {
         window: 64,
         round: 60,
+        shared: 60,
         least: 1,
     },
 ];

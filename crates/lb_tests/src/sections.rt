@@ -203,6 +203,7 @@ fn is_whole_report<R: AllocGlobal + Threads + Sync>(
     let sizes = Sizes {
         window: 1024,
         round: 1024,
+        shared: 1024,
         least: 1,
     };
     let mut said = Said::new(rt.alloc());

@@ -5,7 +5,7 @@ use Rattle.lb_report.proofs.rounds.Rounds.begin_with.Goals as goal
 
 pub returns-clause-state : goal.returns-clause-state
 returns-clause-state c =
-    begun_state c.args.self.now.signature.now [] _ c.requires c.in_ok-new_round.ensures
+    begun_state c.args.self.now.signature.now [] _ c.requires c.in_ok-new_round.ensures tt
 
 pub returns-clause-part : goal.returns-clause-part
 returns-clause-part c = λ table rows is.

@@ -56,6 +56,11 @@ returns-in_err-line-clause-err g c =
     passes_on c.from_residual.result (Refused e) Is c.from_residual.ensures.1
     (λ rows is. halted_at_once elements table (10 ∷ c.args.text.now) rows e refl)
 
+pub returns-in_err-line-clause-kept : goal.returns-in_err-line-clause-kept
+returns-in_err-line-clause-kept g c =
+    passes_on c.from_residual.result (Refused (Memory c.in_err-line.field-0.0)) HasRoll
+    c.from_residual.ensures.1 tt
+
 pub returns-in_err-extend_from_slice-clause-err : goal.returns-in_err-extend_from_slice-clause-err
 returns-in_err-extend_from_slice-clause-err g c =
     let p = c.args.self.now.runner.program.now.program.now in

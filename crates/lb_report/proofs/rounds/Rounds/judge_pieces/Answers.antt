@@ -1,4 +1,4 @@
--- One piece after the other, until nothing is left or a piece has a quote.
+-- One round after the other, until nothing is left or a piece has a quote.
 use Rattle.std.proofs.Common.{ℕ, ◌∙◌, List, ap, arith, inl, inr, length}
 use Rattle.lb_trace.specs.Spelling.{Record}
 use Rattle.lb_pool.proofs.GoingOut.{passes_on}
@@ -6,12 +6,12 @@ use Rattle.lb_report.specs.JudgedParts.{IsPartRead, IsReading}
 use Rattle.lb_report.specs.Windows.{left}
 use Rattle.lb_report.specs.declared.rounds.Reading.{Reading}
 use Rattle.lb_report.specs.declared.rounds.Reading.TheVariants.{Halted}
-use Rattle.lb_report.proofs.PieceReads.{done_halted, pieces_done, pieces_halted, pieces_judged}
-use Rattle.lb_report.proofs.PieceReads.{pieces_more, reading_on}
+use Rattle.lb_report.proofs.PieceReads.{pieces_halted, pieces_judged, pieces_more, reading_on}
+use Rattle.lb_report.proofs.PieceReads.{rest_done, rest_front}
 use Rattle.lb_report.proofs.rounds.Rounds.judge_pieces.Goals as goal
 
-pub pieces-init : goal.pieces-init
-pieces-init g c =
+pub rounds-init : goal.rounds-init
+rounds-init g c =
     let read = c.in_ok-state.ensures in
     record {
       window = read.window;
@@ -20,39 +20,31 @@ pieces-init g c =
       known = read.ok;
     }
 
-pub pieces-preserved : goal.pieces-preserved
-pieces-preserved g c =
+pub rounds-preserved : goal.rounds-preserved
+rounds-preserved g c =
     let p = c.args.self.now.runner.program.now.program.now in
     let elements = c.args.self.now.signature.now in
     let table = c.args.table.now in
-    let before = c.pieces.invariant in
-    let read = c.in_ok-state-3.ensures in
+    let before = c.rounds.invariant in
+    let read = c.in_ok-state-2.ensures in
     record {
       window = read.window;
       state = read.state;
       failures = read.failures ∙ before.failures;
       known = λ rows part.
-          elim (before.known rows part) [
-            | inl at ↦
-                pieces_more p elements table rows _ _ _ _ _ _ _ _ at
-                (read.ok _ (c.in_ok-state-2.ensures.ok table _ at.part))
-            | inr done ↦
-                absurd (omega (
-                  arith,
-                  c.is_done.ensures.left c.pieces-test.true done.over,
-                  ap (length {A = ℕ}) done.nothing,
-                ))
-          ];
+          let at = rest_front p elements table rows _ _ _ _ _ (before.known rows part)
+          (c.is_done.ensures.left c.rounds-test.true) in
+          pieces_more p elements table rows _ _ _ _ _ _ _ _ at (read.ok _ at.part);
     }
 
-pub pieces-smaller : goal.pieces-smaller
-pieces-smaller g c =
-    elim c.in_ok-state-3.ensures.goes [
+pub rounds-smaller : goal.rounds-smaller
+rounds-smaller g c =
+    elim c.in_ok-state-2.ensures.goes [
       | inl less ↦ less
       | inr done ↦
           absurd (omega (
             arith,
-            c.is_done.ensures.left c.pieces-test.true done.0,
+            c.is_done.ensures.left c.rounds-test.true done.0,
             ap (length {A = ℕ}) done.1,
           ))
     ]
@@ -63,54 +55,20 @@ returns-in_err-state-2-clause-err g c =
     let elements = c.args.self.now.signature.now in
     let table = c.args.table.now in
     let f = c.args.feed.now in
-    let h = c.pieces.feed in
+    let h = c.turn.new.feed in
     let old = left (g.F.Feed.coming f) (g.F.Feed.given f) (g.F.Feed.failures f) in
     let new = left (g.F.Feed.coming h) (g.F.Feed.given h) (g.F.Feed.failures h) in
     let e = c.in_err-state-2.field-0.0 in
     let Is : Reading → Type 0 = λ reading. (rows : List Record) → IsPartRead p elements table rows
     c.args.begun
     → IsReading p elements table rows
-    c.args.window.now c.pieces.window old new reading in
-    passes_on c.from_residual-in_err-state-2.result (Halted e) Is
+    c.args.window.now c.turn.new.window old new reading in
+    passes_on c.from_residual-in_err-state-2.result e Is
     c.from_residual-in_err-state-2.ensures.1
     (λ rows part.
-    elim (c.pieces.invariant.known rows part) [
-      | inl at ↦
-          pieces_halted p elements table rows _ _ _ _ _ e
-          (λ rs q. c.in_err-state-2.ensures.err table rs q) at
-      | inr done ↦
-          done_halted p elements table rows _ _ _ _ _ e
-          (λ rs q. c.in_err-state-2.ensures.err table rs q) done
-    ])
-
-pub returns-in_err-state-3-clause-err : goal.returns-in_err-state-3-clause-err
-returns-in_err-state-3-clause-err g c =
-    let p = c.args.self.now.runner.program.now.program.now in
-    let elements = c.args.self.now.signature.now in
-    let table = c.args.table.now in
-    let f = c.args.feed.now in
-    let h = c.read_piece-in-pieces.new.feed in
-    let old = left (g.F.Feed.coming f) (g.F.Feed.given f) (g.F.Feed.failures f) in
-    let new = left (g.F.Feed.coming h) (g.F.Feed.given h) (g.F.Feed.failures h) in
-    let e = c.in_err-state-3.field-0.0 in
-    let Is : Reading → Type 0 = λ reading. (rows : List Record) → IsPartRead p elements table rows
-    c.args.begun
-    → IsReading p elements table rows
-    c.args.window.now c.read_piece-in-pieces.new.window old new reading in
-    passes_on c.from_residual-in_err-state-3.result e Is
-    c.from_residual-in_err-state-3.ensures.1
-    (λ rows part.
-    elim (c.pieces.invariant.known rows part) [
-      | inl at ↦
-          reading_on p elements table rows _ _ _ _ _ _ _ e at
-          (c.in_err-state-3.ensures.err _ (c.in_ok-state-2.ensures.ok table _ at.part))
-      | inr done ↦
-          absurd (omega (
-            arith,
-            c.is_done.ensures.left c.pieces-test.true done.over,
-            ap (length {A = ℕ}) done.nothing,
-          ))
-    ])
+    let at = rest_front p elements table rows _ _ _ _ _ (c.rounds.invariant.known rows part)
+    (c.is_done.ensures.left c.rounds-test.true) in
+    reading_on p elements table rows _ _ _ _ _ _ _ e at (c.in_err-state-2.ensures.err _ at.part))
 
 pub returns-in_err-last_round-clause-err : goal.returns-in_err-last_round-clause-err
 returns-in_err-last_round-clause-err g c =
@@ -118,25 +76,19 @@ returns-in_err-last_round-clause-err g c =
     let elements = c.args.self.now.signature.now in
     let table = c.args.table.now in
     let f = c.args.feed.now in
-    let h = c.pieces.feed in
+    let h = c.rounds.feed in
     let old = left (g.F.Feed.coming f) (g.F.Feed.given f) (g.F.Feed.failures f) in
     let new = left (g.F.Feed.coming h) (g.F.Feed.given h) (g.F.Feed.failures h) in
     let e = c.in_err-last_round.field-0.0 in
     let Is : Reading → Type 0 = λ reading. (rows : List Record) → IsPartRead p elements table rows
     c.args.begun
     → IsReading p elements table rows
-    c.args.window.now c.pieces.window old new reading in
+    c.args.window.now c.rounds.window old new reading in
     passes_on c.from_residual-in_err-last_round.result (Halted e) Is
     c.from_residual-in_err-last_round.ensures.1
     (λ rows part.
-    elim (c.pieces.invariant.known rows part) [
-      | inl at ↦
-          pieces_halted p elements table rows _ _ _ _ _ e
-          (λ rs q. c.in_err-last_round.ensures.err table rs q) at
-      | inr done ↦
-          done_halted p elements table rows _ _ _ _ _ e
-          (λ rs q. c.in_err-last_round.ensures.err table rs q) done
-    ])
+    pieces_halted p elements table rows _ _ _ _ _ e
+    (λ rs q. c.in_err-last_round.ensures.err table rs q) (c.rounds.invariant.known rows part))
 
 pub returns-clause-ok : goal.returns-clause-ok
 returns-clause-ok g c = λ rows part.
@@ -145,10 +97,5 @@ returns-clause-ok g c = λ rows part.
     let table = c.args.table.now in
     pieces_judged p elements table rows _ _ _ _ _ _
     (λ rs q. c.in_ok-last_round.ensures.ok table rs q)
-    (elim (c.pieces.invariant.known rows part) [
-      | inl at ↦
-          pieces_done p elements table rows _ _ _ _ _ at
-          (c.is_done.ensures.over c.pieces-test.false)
-          (c.is_done.ensures.nothing c.pieces-test.false)
-      | inr done ↦ done
-    ])
+    (rest_done p elements table rows _ _ _ _ _ (c.rounds.invariant.known rows part)
+    (c.is_done.ensures.over c.rounds-test.false) (c.is_done.ensures.nothing c.rounds-test.false))

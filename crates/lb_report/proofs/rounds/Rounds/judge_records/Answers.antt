@@ -4,7 +4,9 @@ use Rattle.std.proofs.lemmas.Result.{IfErr-weaker, IfOk-weaker, err_from_is_err_
 use Rattle.csv.specs.Records.{fields_of}
 use Rattle.lb_trace.specs.Readers.{Reaches}
 use Rattle.lb_trace.specs.Spelling.{Record}
-use Rattle.lb_report.specs.JudgedParts.{HasHaltedAt, IsJudgedFrom, IsPartRead}
+use Rattle.lb_pool.proofs.GoingOut.{passes_on}
+use Rattle.lb_report.specs.JudgedParts.{HasHaltedAt, HasRoll, IsJudgedFrom, IsPartRead}
+use Rattle.lb_report.specs.declared.rounds.Halt.TheVariants.{Refused}
 use Rattle.lb_report.proofs.QuotedReads.{on_end, on_halt, on_more, on_none, on_refused}
 use Rattle.lb_report.proofs.rounds.Rounds.judge_records.Goals as goal
 
@@ -72,6 +74,11 @@ returns-in_err-next-clause-err g c =
     let at = c.records.invariant.on text given rows reaches is in
     on_halt elements c.args.table.now text given rows at.more c.records.reader _ at.reaches
     c.in_err-next.ensures.memory)
+
+pub returns-in_err-next-clause-kept : goal.returns-in_err-next-clause-kept
+returns-in_err-next-clause-kept g c =
+    passes_on c.from_residual.result (Refused c.in_err-next.field-0.0) HasRoll
+    c.from_residual.ensures.1 tt
 
 pub returns-in_err-state-clause-err : goal.returns-in_err-state-clause-err
 returns-in_err-state-clause-err g c =

@@ -1,0 +1,253 @@
+//! Running a round and reading the next one: one after the other, or both at once.
+
+ghost use Rattle.std.specs.Prelude.{◌≡◌, ◌<◌};
+ghost use Rattle.lb_report.specs.JudgedParts.{IsOutOfMemory};
+
+use crate::feed::Feed;
+use crate::pieces::Cut;
+use crate::rounds::{Halt, Judged, Reading, Rounds, State, joined};
+use crate::window::Window;
+use lb_check::Verdict;
+use lb_trace::{ColumnTable, RoundReader};
+use lb_traces::TraceSet;
+use std::alloc::AllocError;
+use std::thread::{Threads, join_mut};
+
+/// The halt where memory ran out while traces were run and others were read. A read that failed
+/// comes first.
+fn out_of_memory(read: Result<(), Cut>) -> Halt
+    ensures { IsOutOfMemory read result }
+{
+    match read {
+        Err(Cut::Load(cause)) => Halt::Load(cause),
+        _ => Halt::from(AllocError),
+    }
+}
+
+impl Rounds<'_, '_> {
+    ghost use Rattle.std.specs.Prelude.{◌⊎◌, [], List, true, IfErr, IfOk, IfSome, OnOk};
+    ghost use Rattle.lb_trace.specs.RoundReaders.{IsRound};
+    ghost use Rattle.lb_trace.specs.Rolls.{IsRoll};
+    ghost use Rattle.lb_trace.specs.Spelling.{Record};
+    ghost use Rattle.lb_trace.specs.Tables.{IsColumnTable};
+    ghost use Rattle.lb_pool.specs.Correct.{AreVerdicts};
+    ghost use Rattle.lb_report.specs.JudgedParts.{IsMoreRead, IsPartRead, IsReading, IsReadingOf};
+    ghost use Rattle.lb_report.specs.JudgedParts.{IsReadOn, IsState};
+    ghost use Rattle.lb_report.specs.Pieces.{IsCut, IsOpenRound, IsRoundRead};
+    ghost use Rattle.lb_report.specs.Windows.{IsWindow, left, text_in, turns_left};
+
+    /// Why a text was not judged to its end, where reading into the round of `state` was cut.
+    fn reading_of(&self, state: State, cut: Cut) -> Reading
+        requires { IsRoll state.judged.roll }
+        ensures { IsReadingOf self.now.runner.program.now.program.now self.now.signature.now state
+            cut result }
+    {
+        match cut {
+            Cut::Load(cause) => Reading::Halted(Halt::Load(cause)),
+            Cut::Refused(cause) => Reading::Halted(Halt::Refused(cause)),
+            Cut::Stopped(record) => Reading::Halted(self.stop(state, record)),
+            Cut::Quoted => Reading::Quoted(state),
+        }
+    }
+
+    /// Reads more traces into the round of a state, until it is full or the feed is over.
+    pub(crate) fn read_on<F: Feed>(
+        &self,
+        feed: &mut F,
+        window: &mut Window,
+        table: &ColumnTable,
+        state: State,
+    ) -> Result<State, Reading>
+        requires window { IsWindow window.old }
+        requires failures { F.failures feed.old < u64.MAX }
+        requires table { IsColumnTable self.now.signature.now table.now }
+        requires state { IsState self.now.signature.now state }
+        ensures window { OnOk result (IsWindow window.new) }
+        ensures state { IfOk result (IsState self.now.signature.now) }
+        ensures ok { IfOk result (λ next. (rows : List Record)
+            → IsPartRead self.now.runner.program.now.program.now self.now.signature.now table.now
+            rows state
+            → IsMoreRead self.now.runner.program.now.program.now self.now.signature.now table.now
+            rows window.old window.new
+            (left (F.coming feed.old) (F.given feed.old) (F.failures feed.old))
+            (left (F.coming feed.new) (F.given feed.new) (F.failures feed.new)) next) }
+        ensures failures { OnOk result (F.failures feed.new ≡ F.failures feed.old) }
+        ensures goes { OnOk result ((turns_left window.new < turns_left window.old)
+            ⊎ ((window.old.is_over ≡ true) × (text_in window.old ≡ []))) }
+        ensures err { IfErr result (λ reading. (rows : List Record)
+            → IsPartRead self.now.runner.program.now.program.now self.now.signature.now table.now
+            rows state
+            → IsReading self.now.runner.program.now.program.now self.now.signature.now table.now
+            rows window.old window.new
+            (left (F.coming feed.old) (F.given feed.old) (F.failures feed.old))
+            (left (F.coming feed.new) (F.given feed.new) (F.failures feed.new)) reading) }
+        ensures on { IfErr result (IsReadOn self.now.signature.now window.new
+            (left (F.coming feed.old) (F.given feed.old) (F.failures feed.old))
+            (left (F.coming feed.new) (F.given feed.new) (F.failures feed.new))) }
+    {
+        let mut next = state;
+        match self.read_round(feed, window, table, &mut next.round) {
+            Ok(()) => Ok(next),
+            Err(cut) => Err(self.reading_of(next, cut)),
+        }
+    }
+
+    /// An empty round: the spare one, if there is one.
+    fn empty_round(&self, spare: Option<RoundReader>) -> Result<RoundReader, AllocError>
+        requires { IfSome spare (λ round.
+            round.recorder.rows.signature ≡ self.now.signature.now) }
+        ensures { IfOk result (IsRound self.now.signature.now []) }
+    {
+        match spare {
+            Some(mut round) => {
+                round.clear();
+                Ok(round)
+            }
+            None => self.new_round(),
+        }
+    }
+
+    /// Runs the traces of a set by several workers, and meanwhile reads others into a round.
+    fn run_beside<R: Threads + Sync, F: Feed>(
+        &self,
+        rt: &R,
+        set: &TraceSet,
+        feed: &mut F,
+        window: &mut Window,
+        table: &ColumnTable,
+        round: &mut RoundReader,
+    ) -> (Result<Vec<Verdict>, AllocError>, Result<(), Cut>)
+        requires window { IsWindow window.old }
+        requires failures { F.failures feed.old < u64.MAX }
+        requires table { IsColumnTable self.now.signature.now table.now }
+        requires round { IsOpenRound self.now.signature.now round.old }
+        ensures verdicts { IfOk result.0 (λ verdicts.
+            AreVerdicts self.now.runner.program.now.program.now set.now verdicts.items) }
+        ensures window { OnOk result.1 (IsWindow window.new) }
+        ensures round { OnOk result.1 (IsOpenRound self.now.signature.now round.new) }
+        ensures ok { OnOk result.1 (IsRoundRead table.now window.old window.new
+            (left (F.coming feed.old) (F.given feed.old) (F.failures feed.old))
+            (left (F.coming feed.new) (F.given feed.new) (F.failures feed.new))
+            round.old round.new) }
+        ensures goes { OnOk result.1 ((turns_left window.new < turns_left window.old)
+            ⊎ ((window.old.is_over ≡ true) × (text_in window.old ≡ []))) }
+        ensures err { IfErr result.1 (IsCut self.now.signature.now table.now
+            window.old window.new
+            (left (F.coming feed.old) (F.given feed.old) (F.failures feed.old))
+            (left (F.coming feed.new) (F.given feed.new) (F.failures feed.new))
+            round.old round.new) }
+    {
+        join_mut(
+            rt,
+            &mut || self.run_side_by_side(rt, set),
+            &mut || self.read_round(feed, window, table, round),
+        )
+    }
+
+    /// Runs the traces of the round, and meanwhile reads others into the spare round. Then the two
+    /// change places.
+    fn run_and_read<R: Threads + Sync, F: Feed>(
+        &self,
+        rt: &R,
+        feed: &mut F,
+        window: &mut Window,
+        table: &ColumnTable,
+        state: State,
+    ) -> Result<State, Reading>
+        requires window { IsWindow window.old }
+        requires failures { F.failures feed.old < u64.MAX }
+        requires table { IsColumnTable self.now.signature.now table.now }
+        requires state { IsState self.now.signature.now state }
+        ensures window { OnOk result (IsWindow window.new) }
+        ensures state { IfOk result (IsState self.now.signature.now) }
+        ensures ok { IfOk result (λ next. (rows : List Record)
+            → IsPartRead self.now.runner.program.now.program.now self.now.signature.now table.now
+            rows state
+            → IsMoreRead self.now.runner.program.now.program.now self.now.signature.now table.now
+            rows window.old window.new
+            (left (F.coming feed.old) (F.given feed.old) (F.failures feed.old))
+            (left (F.coming feed.new) (F.given feed.new) (F.failures feed.new)) next) }
+        ensures failures { OnOk result (F.failures feed.new ≡ F.failures feed.old) }
+        ensures goes { OnOk result ((turns_left window.new < turns_left window.old)
+            ⊎ ((window.old.is_over ≡ true) × (text_in window.old ≡ []))) }
+        ensures err { IfErr result (λ reading. (rows : List Record)
+            → IsPartRead self.now.runner.program.now.program.now self.now.signature.now table.now
+            rows state
+            → IsReading self.now.runner.program.now.program.now self.now.signature.now table.now
+            rows window.old window.new
+            (left (F.coming feed.old) (F.given feed.old) (F.failures feed.old))
+            (left (F.coming feed.new) (F.given feed.new) (F.failures feed.new)) reading) }
+        ensures on { IfErr result (IsReadOn self.now.signature.now window.new
+            (left (F.coming feed.old) (F.given feed.old) (F.failures feed.old))
+            (left (F.coming feed.new) (F.given feed.new) (F.failures feed.new))) }
+    {
+        let State {
+            judged,
+            room,
+            round,
+            spare,
+        } = state;
+        let Judged { roll, verdicts } = judged;
+        let set = round.set();
+        let roll = self.named(roll, set)?;
+        let mut next = self.empty_round(spare)?;
+        let (found, read) = self.run_beside(rt, set, feed, window, table, &mut next);
+        let Ok(verdicts) = joined(verdicts, found) else {
+            return Err(Reading::Halted(out_of_memory(read)));
+        };
+        let state = State {
+            judged: Judged { roll, verdicts },
+            room,
+            round: next,
+            spare: Some(round),
+        };
+        match read {
+            Ok(()) => Ok(state),
+            Err(cut) => Err(self.reading_of(state, cut)),
+        }
+    }
+
+    /// Runs the traces of the round, and reads others. Several workers do both at once.
+    pub(crate) fn turn<R: Threads + Sync, F: Feed>(
+        &self,
+        rt: &R,
+        feed: &mut F,
+        window: &mut Window,
+        table: &ColumnTable,
+        state: State,
+    ) -> Result<State, Reading>
+        requires window { IsWindow window.old }
+        requires failures { F.failures feed.old < u64.MAX }
+        requires table { IsColumnTable self.now.signature.now table.now }
+        requires state { IsState self.now.signature.now state }
+        ensures window { OnOk result (IsWindow window.new) }
+        ensures state { IfOk result (IsState self.now.signature.now) }
+        ensures ok { IfOk result (λ next. (rows : List Record)
+            → IsPartRead self.now.runner.program.now.program.now self.now.signature.now table.now
+            rows state
+            → IsMoreRead self.now.runner.program.now.program.now self.now.signature.now table.now
+            rows window.old window.new
+            (left (F.coming feed.old) (F.given feed.old) (F.failures feed.old))
+            (left (F.coming feed.new) (F.given feed.new) (F.failures feed.new)) next) }
+        ensures failures { OnOk result (F.failures feed.new ≡ F.failures feed.old) }
+        ensures goes { OnOk result ((turns_left window.new < turns_left window.old)
+            ⊎ ((window.old.is_over ≡ true) × (text_in window.old ≡ []))) }
+        ensures err { IfErr result (λ reading. (rows : List Record)
+            → IsPartRead self.now.runner.program.now.program.now self.now.signature.now table.now
+            rows state
+            → IsReading self.now.runner.program.now.program.now self.now.signature.now table.now
+            rows window.old window.new
+            (left (F.coming feed.old) (F.given feed.old) (F.failures feed.old))
+            (left (F.coming feed.new) (F.given feed.new) (F.failures feed.new)) reading) }
+        ensures on { IfErr result (IsReadOn self.now.signature.now window.new
+            (left (F.coming feed.old) (F.given feed.old) (F.failures feed.old))
+            (left (F.coming feed.new) (F.given feed.new) (F.failures feed.new))) }
+    {
+        if self.workers == 1 {
+            let next = self.next_round(rt, state)?;
+            self.read_on(feed, window, table, next)
+        } else {
+            self.run_and_read(rt, feed, window, table, state)
+        }
+    }
+}
