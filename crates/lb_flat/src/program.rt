@@ -7,7 +7,6 @@ use lb_syntax::Kind;
 ///
 /// The first elements are those of variables, instance by instance; the others hold the values
 /// inside expressions.
-#[derive(Drop)]
 pub struct FlatProgram {
     /// The kinds of the inputs, in the order of the signature.
     pub inputs: Vec<Kind>,
@@ -29,4 +28,22 @@ pub struct FlatProgram {
     pub asserted: Vec<ElementId>,
     /// The element that holds the property.
     pub property: ElementId,
+}
+
+// Not derived, so that a caller drops it in one step.
+impl Drop for FlatProgram {
+    fn drop(self) {
+        let FlatProgram {
+            inputs: _,
+            kinds: _,
+            equations: _,
+            clocks: _,
+            size: _,
+            variables: _,
+            memory_operands: _,
+            clock_elements: _,
+            asserted: _,
+            property: _,
+        } = self;
+    }
 }

@@ -74,7 +74,7 @@ fn order_number(cause: &OrderError) -> u8
 }
 
 /// Why there is no report: the error of the part that refused.
-#[derive(Drop, Error)]
+#[derive(Error)]
 pub enum BenchError {
     /// E0: memory ran out outside the parts below.
     #[error("out of memory")]
@@ -97,6 +97,21 @@ pub enum BenchError {
     /// E0 and E14 to E18: the text of the traces.
     #[error(transparent)]
     Trace(TraceError),
+}
+
+// Not derived, so that a caller drops it in one step.
+impl Drop for BenchError {
+    fn drop(self) {
+        match self {
+            BenchError::Memory => {}
+            BenchError::Syntax(_) => {}
+            BenchError::Static(_) => {}
+            BenchError::Check(_) => {}
+            BenchError::Flat(_) => {}
+            BenchError::Order(_) => {}
+            BenchError::Trace(_) => {}
+        }
+    }
 }
 
 impl fmt::Debug for BenchError {

@@ -5,7 +5,6 @@ ghost use Rattle.std.specs.Option.{option_map};
 
 /// The options of a run. Only the node under test and the observer change what the report says: the
 /// rest sets how the work is spread.
-#[derive(Drop)]
 pub struct Options {
     /// The node under test.
     pub node: String,
@@ -21,6 +20,19 @@ pub struct Options {
     pub ghost few_workers: { workers ≤ 64 },
     pub ghost some_lanes: { 1 ≤ batch },
     pub ghost few_lanes: { batch ≤ 64 },
+}
+
+// Not derived, so that a caller drops it in one step.
+impl Drop for Options {
+    fn drop(self) {
+        let Options {
+            node: _,
+            observer: _,
+            workers: _,
+            batch: _,
+            by_length: _,
+        } = self;
+    }
 }
 
 impl Options {

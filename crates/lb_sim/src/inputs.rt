@@ -29,7 +29,6 @@ const MOST_AHEAD: usize = 16;
 
 /// A row of inputs for each lane: a plane for each Boolean of the signature, and a word for each
 /// integer, in the order of the signature.
-#[derive(Drop)]
 pub struct Inputs {
     pub columns: Columns,
     pub planes: Vec<u64>,
@@ -44,6 +43,20 @@ pub struct Inputs {
     pub ghost words_room: { length words.items ≡ columns.numbers },
     pub(crate) ghost some: { 0 < reach },
     pub ghost rows_room: { 72 * (reach * words_of_row columns.truths) ≤ length rows.items },
+}
+
+// Not derived, so that a caller drops it in one step.
+impl Drop for Inputs {
+    fn drop(self) {
+        let Inputs {
+            columns: _,
+            planes: _,
+            words: _,
+            rows: _,
+            reach: _,
+            room: _,
+        } = self;
+    }
 }
 
 // The number of instants whose Booleans are read in one go, where one instant takes `width` words.

@@ -34,7 +34,6 @@ pub struct LaneCode {
 ///
 /// Planes and words stand in this order: the places that are the same everywhere, the inputs, the
 /// constants, the memories, and then what the code writes.
-#[derive(Drop)]
 pub struct LaneProgram<'a> {
     pub program: &'a FlatProgram,
     /// Code for any instant, which takes nothing for granted.
@@ -72,4 +71,25 @@ pub struct LaneProgram<'a> {
         steady ∥₁ },
     pub ghost general_clear: { general.clear.items ≡ [] },
     pub ghost general_set: { general.set.items ≡ [] },
+}
+
+// Not derived, so that a caller drops it in one step.
+impl Drop for LaneProgram<'_> {
+    fn drop(self) {
+        let LaneProgram {
+            program: _,
+            general: _,
+            steady: _,
+            planes: _,
+            words: _,
+            inputs: _,
+            kept: _,
+            start_planes: _,
+            start_words: _,
+            constant_word: _,
+            memory_plane: _,
+            memory_word: _,
+            read: _,
+        } = self;
+    }
 }

@@ -18,7 +18,6 @@ use std::alloc::{AllocError, Global};
 /// let room = BatchRoom::new(alloc, &program)?;
 /// let room = run_queue_in(room, &program, &set, &[0, 1, 2], 2, &mut verdicts);
 /// ```
-#[derive(Drop)]
 pub struct BatchRoom {
     pub(crate) planes: Vec<u64>,
     pub(crate) words: Vec<LaneWord>,
@@ -27,6 +26,19 @@ pub struct BatchRoom {
     pub(crate) inputs: Inputs,
     pub(crate) ghost verdicts_room: { length verdicts.items ≡ 64 },
     pub(crate) ghost begins_room: { length begins.items ≡ 64 },
+}
+
+// Not derived, so that a caller drops it in one step.
+impl Drop for BatchRoom {
+    fn drop(self) {
+        let BatchRoom {
+            planes: _,
+            words: _,
+            verdicts: _,
+            begins: _,
+            inputs: _,
+        } = self;
+    }
 }
 
 // Whether two kinds are the same.

@@ -35,7 +35,6 @@ const MOST_TRACES: u32 = 1_000_000;
 const MOST_INSTANTS: u32 = 1_000_000;
 
 /// The names of traces, one after the other, and the number of instants of each.
-#[derive(Drop)]
 pub struct Roll {
     /// The traces with one row each, without cells.
     pub(crate) names: TraceRows,
@@ -45,6 +44,19 @@ pub struct Roll {
     pub(crate) instants: u64,
     /// The number of cells of an instant, at least one.
     pub(crate) cells: u64,
+}
+
+// Not derived, so that a caller drops it in one step.
+impl Drop for Roll {
+    fn drop(self) {
+        let Roll {
+            names: _,
+            known: _,
+            lengths: _,
+            instants: _,
+            cells: _,
+        } = self;
+    }
 }
 
 // The number of the first record past the limit of cells, where each record has `cells` cells.
@@ -277,7 +289,9 @@ impl Roll {
         let Roll {
             names,
             mut known,
-            ..
+            lengths: _,
+            instants: _,
+            cells: _,
         } = self;
         match known.take(alloc, names.set(), name) {
             Ok(None) => TraceError::Trace { record },

@@ -26,10 +26,19 @@ pub struct Stopped<'t> {
 }
 
 /// The traces of some records of a text, which follow a header.
-#[derive(Drop)]
 pub struct RoundReader {
     pub(crate) recorder: Recorder,
     entry: ByteRecord,
+}
+
+// Not derived, so that a caller drops it in one step.
+impl Drop for RoundReader {
+    fn drop(self) {
+        let RoundReader {
+            recorder: _,
+            entry: _,
+        } = self;
+    }
 }
 
 impl RoundReader {

@@ -25,12 +25,21 @@ use lb_traces::{TraceSet, is_trace_name};
 use std::alloc::{AllocError, Global};
 
 /// The known names, by which a name is new or not.
-#[derive(Drop)]
 pub(crate) struct SeenNames {
     /// Whether each name rises above the one before; the table is not in use then.
     pub(crate) rising: bool,
     /// All names.
     pub(crate) table: NameTable,
+}
+
+// Not derived, so that a caller drops it in one step.
+impl Drop for SeenNames {
+    fn drop(self) {
+        let SeenNames {
+            rising: _,
+            table: _,
+        } = self;
+    }
 }
 
 // Whether a name is shorter than another, or as long and smaller.

@@ -16,7 +16,6 @@ use lb_static::Signature;
 use std::alloc::{AllocError, Global};
 
 /// The columns of the scalar inputs.
-#[derive(Drop)]
 pub struct ColumnTable {
     /// The record that names the columns.
     pub(crate) header: ByteRecord,
@@ -32,6 +31,21 @@ pub struct ColumnTable {
     pub(crate) is_placed: bool,
     /// Whether the columns stand in the order of the signature and are at most 64, all Booleans.
     pub(crate) are_truths: bool,
+}
+
+// Not derived, so that a caller drops it in one step.
+impl Drop for ColumnTable {
+    fn drop(self) {
+        let ColumnTable {
+            header: _,
+            columns: _,
+            count: _,
+            in_order: _,
+            placed: _,
+            is_placed: _,
+            are_truths: _,
+        } = self;
+    }
 }
 
 /// The table of a header; None where the record is not `trace` and then the name of each scalar

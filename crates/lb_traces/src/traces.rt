@@ -38,7 +38,6 @@ use std::marker::Model;
 /// Recorded traces and the signature that their rows follow.
 ///
 /// Contracts see the signature and a list of names and rows.
-#[derive(Drop)]
 pub struct TraceSet {
     signature: Signature,
     names: Names,
@@ -49,6 +48,20 @@ pub struct TraceSet {
     /// 0, and for each trace the number of rows up to its end.
     row_ends: Vec<u32>,
     columns: RowColumns,
+}
+
+// Not derived, so that a caller drops it in one step.
+impl Drop for TraceSet {
+    fn drop(self) {
+        let TraceSet {
+            signature: _,
+            names: _,
+            numbers: _,
+            words: _,
+            row_ends: _,
+            columns: _,
+        } = self;
+    }
 }
 
 impl Model for TraceSet {
