@@ -2,7 +2,7 @@
 
 use crate::rounds::push_whole;
 use crate::sections::push_ranges;
-use crate::texts::{Said, expect, push_unlike};
+use lb_core_tests::texts::{Said, expect, push_unlike};
 use lb_report::{FilePlaces, Sizes};
 use std::alloc::Global;
 use std::fs::Files;

@@ -3,9 +3,10 @@
 ghost use Rattle.std.specs.Prelude.{◌<◌};
 
 use crate::answers::spread;
-use crate::pool::{Hold, LANES, SPREADS, TURNS, first_case, push_case};
-use crate::tables::write_out;
-use crate::texts::{Said, around, expect, push_unlike};
+use crate::pool::{Hold, LANES, SPREADS, TURNS, first_case};
+use lb_core_tests::cases::push_case;
+use lb_core_tests::rows::write_out;
+use lb_core_tests::texts::{Said, around, expect, push_unlike};
 use lb_report::{
     FollowFault, Gate, NoGate, Options, Sink, TextPlaces, Writer, follow, follow_file, split_case,
 };

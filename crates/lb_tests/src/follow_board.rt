@@ -7,10 +7,10 @@ ghost use Rattle.lb_flat.specs.Standing.{HasKindsOf};
 ghost use Rattle.lb_pool.specs.FollowSeats.{IsFollowSeatOf, right_of};
 ghost use Rattle.lb_pool.specs.Settlements.{IsRight};
 
-use crate::batches::prepared;
 use crate::pool::first_case;
-use crate::texts::{Said, expect};
 use lb_check::Verdict;
+use lb_core_tests::cases::prepared;
+use lb_core_tests::texts::{Said, expect};
 use lb_flat::{Ordered, eval_trace};
 use lb_pool::{FollowBoard, FollowSeat, Look, Plan};
 use lb_sim::has_kinds;

@@ -4,10 +4,10 @@ ghost use Rattle.std.specs.Prelude.{◌≡◌};
 ghost use Rattle.lb_pool.specs.Seats.{IsSeatOf, shares_of};
 
 use crate::answers::{push_answer, push_run, spread};
-use crate::batches::prepared;
-use crate::tables::write_out;
-use crate::texts::{Said, around, expect, push_unlike};
 use lb_check::Verdict;
+use lb_core_tests::cases::{prepared, push_case};
+use lb_core_tests::rows::write_out;
+use lb_core_tests::texts::{Said, around, expect, push_unlike};
 use lb_flat::{Ordered, eval_trace};
 use lb_pool::{ClaimBoard, ClaimSeat, Gate, Plan, run_claims};
 use lb_report::{Options, status};
@@ -211,25 +211,6 @@ a => 64: 32 32, 16 48
 bbbbaaaaaa => 64: 32 32, 48 16, 56 8, 60 4, 62 2, 31 33, 15 49, 7 57, 3 61, 1 63, 1 63";
 
 // ## Runs
-
-// The records of a line: `a 2,7` is `a,7` twice. A line without a space is one record.
-fn push_records(case: &mut Said, line: &str) {
-    let (name, records) = line.split_once(' ').unwrap_or((line, "1"));
-    let (count, cells) = around(records, ",");
-    let comma = if cells.is_empty() { "" } else { "," };
-    for _ in 0..count.parse::<u32>().unwrap_or(0) {
-        write!(case, "{name}{comma}{cells}\n");
-    }
-}
-
-/// A case with counted records, written out: `a 2,7` is `a,7` twice.
-pub fn push_case(case: &mut Said, short: &str) {
-    let (source, traces) = around(short, "%traces\n");
-    write!(case, "{source}%traces\n");
-    for line in traces.split('\n') {
-        push_records(case, line);
-    }
-}
 
 /// The numbers of lanes of a batch.
 pub const LANES: [u32; 3] = [1, 7, 64];

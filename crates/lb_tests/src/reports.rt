@@ -1,7 +1,7 @@
 //! Case texts in their two parts, statuses and options.
 
-use crate::texts::{Said, expect};
 use lb_check::Verdict;
+use lb_core_tests::texts::{Said, expect};
 use lb_report::{Options, split_case, status};
 use std::alloc::{AllocError, Global};
 use std::test::Fail;

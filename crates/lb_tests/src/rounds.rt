@@ -2,8 +2,7 @@
 //! text as a whole.
 
 use crate::answers::{push_refusal, spread};
-use crate::readings::push_text;
-use crate::texts::{Said, around, expect, push_unlike};
+use lb_core_tests::texts::{Said, around, expect, push_text, push_unlike};
 use lb_report::{BenchError, FeedFault, LoadError, Reader, Report, Sizes, bench, bench_feed};
 use std::io::{ErrorKind, Read};
 use std::test::Fail;

@@ -2,9 +2,8 @@
 //! between two reads.
 
 use crate::answers::spread;
-use crate::readings::push_text;
 use crate::rounds::{FAILING, SIZES, SUM, push_found};
-use crate::texts::{Said, expect, is_same, push_unlike};
+use lb_core_tests::texts::{Said, expect, is_same, push_text, push_unlike};
 use lb_report::{FilePlaces, PlacedFile, Sizes, TextPlaces, bench_ranges};
 use std::alloc::Global;
 use std::fs::{Metadata, OpenFile};

@@ -1,6 +1,6 @@
 //! Reading an input and writing an output, where they work and where they fail.
 
-use crate::texts::{Said, expect};
+use lb_core_tests::texts::{Said, expect};
 use lb_report::{Feed, LoadError, Reader, Sent, Sink, Writer, load, send};
 use std::alloc::{AllocError, Global};
 use std::io::{ErrorKind, Read, Write};

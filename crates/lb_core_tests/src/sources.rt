@@ -6,7 +6,6 @@
 //! inputs.
 
 use crate::texts::{Said, around, is_same, last_line, named};
-use lb_check::{Checked, check};
 use lb_static::{Elab, StaticError, elaborate};
 use lb_syntax::{Source, SyntaxError, parse};
 use std::alloc::Global;
@@ -75,10 +74,4 @@ pub fn push_place(alloc: Global, front: &str, end: &str, said: &mut Said) {
 pub fn push_answer(alloc: Global, asked: &str, said: &mut Said) {
     let (text, word) = last_line(asked);
     push_parsed(alloc, &parse(alloc, text.as_bytes()), word, said);
-}
-
-/// The program of a tree that keeps all rules, with `main` under test and perhaps an observer.
-pub fn checked_of<'t>(alloc: Global, tree: &'t Source, observer: &'t str) -> Option<Checked<'t>> {
-    let elab = elaborate(alloc, tree, "main", named(observer)).ok()?;
-    check(alloc, elab).ok()
 }

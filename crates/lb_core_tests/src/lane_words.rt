@@ -1,26 +1,30 @@
 //! Worked values of lane words, from the rules of the operators and not from the kernels.
 
 use crate::lanes::operator;
-use crate::texts::{Said, is_same};
+use crate::texts::{Said, around, is_same};
+use crate::words::Words;
 use lb_lanes::{LaneWord, Plane, Width};
 
-// Puts the value of `lane:value` into its lane.
-fn set_lane(word: &mut LaneWord, spelled: &str) -> Option<()> {
-    let (lane, value) = spelled.split_once(':')?;
-    let lane = lane.parse::<u32>().ok()?;
-    let value = value.parse::<i32>().ok()?;
-    if lane < 64 {
-        word.set(lane, value);
+// Puts the value of `lane:value` into its lane. Returns whether there is such a lane and a value.
+fn set_lane(word: &mut LaneWord, spelled: &str) -> bool {
+    let (lane, value) = around(spelled, ":");
+    match (lane.parse::<u32>(), value.parse::<i32>()) {
+        (Ok(lane), Ok(value)) if lane < 64 => {
+            word.set(lane, value);
+            true
+        }
+        _ => false,
     }
-    Some(())
 }
 
 // The word of `4,1:-4,63:0`: 4 in each lane, but -4 in lane 1 and 0 in lane 63.
 fn word_of(spelled: &str) -> Option<LaneWord> {
     let mut parts = spelled.split(',');
-    let mut word = LaneWord::splat(parts.next()?.parse::<i32>().ok()?);
+    let mut word = LaneWord::splat(parts.next().unwrap_or("").parse::<i32>().ok()?);
     for part in parts {
-        set_lane(&mut word, part)?;
+        if !set_lane(&mut word, part) {
+            return None;
+        }
     }
     Some(word)
 }
@@ -59,11 +63,11 @@ fn put(
 
 // The result of the kernel of a row on its two words, put into lanes that held 0, and its plane.
 fn put_row(asked: &str, width: Width) -> Option<(LaneWord, Plane)> {
-    let mut words = asked.split(' ');
-    let kernel = words.next()?;
-    let a = word_of(words.next()?)?;
-    let b = word_of(words.next()?)?;
-    let active = plane_of(words.next()?)?;
+    let mut words = Words::new(asked);
+    let kernel = words.word();
+    let a = word_of(words.word())?;
+    let b = word_of(words.word())?;
+    let active = plane_of(words.word())?;
     let mut out = LaneWord::splat(0);
     let plane = put(kernel.as_bytes(), &a, &b, active, width, &mut out);
     Some((out, plane))

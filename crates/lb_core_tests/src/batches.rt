@@ -5,20 +5,15 @@ ghost use Rattle.lb_static.specs.Signature.{kinds_of};
 ghost use Rattle.lb_sim.specs.BatchRuns.{flat_of};
 ghost use Rattle.lb_sim.specs.InputRows.{HaveInstant};
 
-use crate::pool::push_case;
-use crate::sources::checked_of;
+use crate::cases::{prepared, push_case};
 use crate::texts::{Said, around, expect, first_line, is_same};
 use crate::{forms, random, runs};
 use lb_check::Verdict;
-use lb_expand::expand;
-use lb_flat::{Ordered, eval_trace, order};
+use lb_flat::{Ordered, eval_trace};
 use lb_lanes::Plane;
-use lb_report::split_case;
 use lb_sim::{
     BatchRoom, BatchRun, Inputs, LaneProgram, compile, has_kinds, run_batch, run_queue_in,
 };
-use lb_syntax::parse;
-use lb_trace::read_traces;
 use lb_traces::TraceSet;
 use std::alloc::{AllocError, Global};
 use std::test::Fail;
@@ -319,16 +314,6 @@ fn push_on_set(
         }
         Question::Steps => push_run(alloc, program, set, said),
     }
-}
-
-/// The equations of a case and its traces, if its texts are accepted. An empty name is no observer.
-pub fn prepared(alloc: Global, case: &str, observer: &str) -> Option<(Ordered, TraceSet)> {
-    let (source, traces) = split_case(case.as_bytes());
-    let tree = parse(alloc, source).ok()?;
-    let checked = checked_of(alloc, &tree, observer)?;
-    let flat = expand(alloc, &checked).ok();
-    let set = read_traces(alloc, &checked.into_signature(), traces).ok()?;
-    Some((order(alloc, flat?).ok()?, set))
 }
 
 fn push_on_case(

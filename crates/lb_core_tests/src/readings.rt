@@ -1,26 +1,12 @@
 //! Trace texts and the traces that are read of them, however records end and cells are written.
 
-use crate::texts::{Said, around, is_same};
+use crate::texts::{Said, around, is_same, push_text};
 use lb_static::Signature;
 use lb_syntax::Kind;
 use lb_trace::{TraceError, read_loaded, read_traces, read_traces_by};
 use lb_traces::TraceSet;
 use std::alloc::{AllocError, Global};
 use std::thread::Threads;
-
-// The text that a row stands for: `/` is a line feed, `\` a carriage return, `'` the byte `"`, and
-// `^` the byte order mark.
-pub fn push_text(short: &str, text: &mut Said) {
-    for letter in short.chars() {
-        match letter {
-            '/' => text.push('\n'),
-            '\\' => text.push('\r'),
-            '\'' => text.push('"'),
-            '^' => text.push('\u{feff}'),
-            _ => text.push(letter),
-        }
-    }
-}
 
 // The names of the traces, each with the cells of its instants.
 fn push_traces(alloc: Global, set: &TraceSet, said: &mut Said) {

@@ -4,8 +4,9 @@
 ghost use Rattle.std.specs.Prelude.{◌≡◌, ◌<◌, ◌≤◌, ◌+◌, IfSome, length};
 ghost use Rattle.lb_machine.specs.Correct.{HasRoom};
 
-use crate::lanes::{number, operator};
+use crate::lanes::operator;
 use crate::texts::{Said, around, is_same};
+use crate::words::Words;
 use lb_lanes::{IntOperator, LaneWord, Width};
 use lb_machine::{
     Code, Comparison, FALSE_PLANE, PlaneId, PlaneOperator, TRUE_PLANE, WordId, carry_planes,
@@ -142,24 +143,16 @@ fn marked(alloc: Global, code: &Code, outer: u32) -> Result<Made, AllocError> {
     Ok(Made::Marks(marks))
 }
 
-// A number that a word spells without a sign, or 0.
-fn place(word: Option<&str>) -> u32 {
-    match number(word) {
-        Some(n) => n.unsigned_abs(),
-        None => 0,
-    }
-}
-
 // The places that a command makes, if the code has at most `MOST` planes and words.
 fn make_one(alloc: Global, code: &mut Code, command: &str) -> Result<Made, AllocError> {
-    let mut words = command.split(' ');
-    let letter = match words.next().unwrap_or("").as_bytes() {
+    let mut words = Words::new(command);
+    let letter = match words.word().as_bytes() {
         [letter, ..] => *letter,
         _ => b'+',
     };
-    let a = place(words.next());
-    let b = place(words.next());
-    let c = place(words.next());
+    let a = words.place();
+    let b = words.place();
+    let c = words.place();
     if code.planes > MOST || code.words > MOST {
         return Ok(Made::Nothing);
     }
@@ -170,15 +163,18 @@ fn make_one(alloc: Global, code: &mut Code, command: &str) -> Result<Made, Alloc
     }
 }
 
-// The code of some commands over four planes and three words, and the places that each makes.
-fn built(alloc: Global, commands: &str) -> Result<(Code, Vec<Made>), AllocError> {
-    let mut code = Code::new(alloc, 4, 3);
-    let mut all = Vec::new(alloc);
+// Adds what some commands make to code, and the places that each makes to `all`.
+fn make_all(
+    alloc: Global,
+    code: &mut Code,
+    commands: &str,
+    all: &mut Vec<Made>,
+) -> Result<(), AllocError> {
     for command in commands.split(", ") {
-        let one = make_one(alloc, &mut code, command)?;
+        let one = make_one(alloc, code, command)?;
         all.push(one)?;
     }
-    Ok((code, all))
+    Ok(())
 }
 
 // The two integers in lanes 0 and 1, and 0 elsewhere.
@@ -291,20 +287,15 @@ fn push_run(
     push_made(planes, words, all, said);
 }
 
-// A number that a word spells, or 0.
-fn value(word: Option<&str>) -> i32 {
-    number(word).unwrap_or(0)
-}
-
 // The two planes and the lanes 0 and 1 of the two words that a text spells.
 fn given_by(text: &str) -> ((u32, u32), [i32; 4]) {
-    let mut numbers = text.split(' ');
-    let planes = (place(numbers.next()), place(numbers.next()));
+    let mut given = Words::new(text);
+    let planes = (given.place(), given.place());
     let words = [
-        value(numbers.next()),
-        value(numbers.next()),
-        value(numbers.next()),
-        value(numbers.next()),
+        given.number(),
+        given.number(),
+        given.number(),
+        given.number(),
     ];
     (planes, words)
 }
@@ -312,11 +303,11 @@ fn given_by(text: &str) -> ((u32, u32), [i32; 4]) {
 // Runs code as `push_run` on two planes and lanes 0 and 1 of two words.
 fn push_built(
     alloc: Global,
-    built: &(Code, Vec<Made>),
+    code: &Code,
+    all: &[Made],
     given: &str,
     said: &mut Said,
 ) -> Result<(), AllocError> {
-    let (code, all) = built;
     let (given_planes, given_words) = given_by(given);
     let mut planes = planes_for(alloc, given_planes, code.planes)?;
     let mut words = words_for(alloc, &given_words, code.words)?;
@@ -324,17 +315,15 @@ fn push_built(
     Ok(())
 }
 
-/// The number of instructions of some commands, and what each makes, after a run on two planes and
-/// lanes 0 and 1 of two words.
+/// The number of instructions of some commands over four planes and three words, and what each
+/// makes, after a run on two planes and lanes 0 and 1 of two words.
 pub fn push_results(alloc: Global, asked: &str, said: &mut Said) {
     let (given, commands) = around(asked, " | ");
-    match &built(alloc, commands) {
-        Ok(built) => {
-            if push_built(alloc, built, given, said).is_err() {
-                said.cut();
-            }
-        }
-        Err(_) => said.cut(),
+    let mut code = Code::new(alloc, 4, 3);
+    let mut all = Vec::new(alloc);
+    let is_made = make_all(alloc, &mut code, commands, &mut all).is_ok();
+    if !is_made || push_built(alloc, &code, &all, given, said).is_err() {
+        said.cut();
     }
 }
 
@@ -407,11 +396,11 @@ fn push_words(first: u32, a: u32, b: u32, said: &mut Said) {
 
 /// The planes, or the words, after two of them were carried to the first place and the next.
 pub fn push_carried(asked: &str, said: &mut Said) {
-    let mut words = asked.split(' ');
-    let kind = words.next().unwrap_or("");
-    let first = place(words.next());
-    let a = place(words.next());
-    let b = place(words.next());
+    let mut words = Words::new(asked);
+    let kind = words.word();
+    let first = words.place();
+    let a = words.place();
+    let b = words.place();
     said.push_str("now");
     if is_same(kind, "planes") {
         push_planes(first, a, b, said);

@@ -1,5 +1,5 @@
 use Rattle.std.proofs.Common.{◌≡◌}
-use Rattle.lb_tests.proofs.batches.push_steps.Given as goal
+use Rattle.lb_core_tests.proofs.batches.push_steps.Given as goal
 
 abbrev pub invariant-loop : goal.invariant-loop
 invariant-loop l = record {

@@ -94,6 +94,20 @@ pub fn named(name: &str) -> Option<&str> {
     if name.is_empty() { None } else { Some(name) }
 }
 
+/// Adds the text that a row stands for: `/` is a line feed, `\` a carriage return, `'` the byte `"`,
+/// and `^` the byte order mark.
+pub fn push_text(short: &str, text: &mut Said) {
+    for letter in short.chars() {
+        match letter {
+            '/' => text.push('\n'),
+            '\\' => text.push('\r'),
+            '\'' => text.push('"'),
+            '^' => text.push('\u{feff}'),
+            _ => text.push(letter),
+        }
+    }
+}
+
 /// Whether two texts are the same.
 pub fn is_same(one: &str, other: &str) -> bool {
     one == other

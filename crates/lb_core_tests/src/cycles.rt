@@ -3,7 +3,7 @@
 //! Elements are numbered as variables are declared, those of arrays one after the other. Each of a
 //! cycle needs the next one at the same instant, and the last one the first.
 
-use crate::sources::checked_of;
+use crate::cases::checked_of;
 use crate::texts::Said;
 use lb_expand::expand;
 use lb_flat::{ElementId, OrderError, order};

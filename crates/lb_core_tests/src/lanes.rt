@@ -4,6 +4,7 @@ ghost use Rattle.std.specs.Prelude.{◌≡◌, length};
 ghost use Rattle.lb_lanes.specs.Kernels.{AreInts};
 
 use crate::texts::{Said, around};
+use crate::words::Words;
 use lb_lanes::{
     IntLanes, IntOperator, Plane, and_slices, any_outside, commit_ints, commit_planes, or_slices,
     transpose, xor_slices,
@@ -18,16 +19,6 @@ pub fn pair(first: i32, second: i32) -> IntLanes
     lanes.set(0, i64::from(first));
     lanes.set(1, i64::from(second));
     lanes
-}
-
-/// The number that a word spells, if it spells one.
-pub fn number(word: Option<&str>) -> Option<i32> {
-    word?.parse().ok()
-}
-
-// The plane that a word spells, if it spells one.
-fn plane(word: Option<&str>) -> Option<Plane> {
-    Some(Plane(u64::from(number(word)?.unsigned_abs())))
 }
 
 /// The operator of a sign.
@@ -77,22 +68,18 @@ fn applied(kernel: &[u8], a: &IntLanes, b: &IntLanes, active: Plane) -> (IntLane
     }
 }
 
-// The result of the kernel of a row on its numbers, if they are five.
-fn applied_row(asked: &str) -> Option<(IntLanes, Plane)> {
-    let mut words = asked.split(' ');
-    let kernel = words.next()?;
-    let a = pair(number(words.next())?, number(words.next())?);
-    let b = pair(number(words.next())?, number(words.next())?);
-    let active = plane(words.next())?;
-    Some(applied(kernel.as_bytes(), &a, &b, active))
-}
-
-// Lanes 0 and 1 of the result of a kernel on its numbers, and its plane.
+// Lanes 0 and 1 of the result of a kernel on its five numbers, and its plane.
 pub fn push_ints(asked: &str, said: &mut Said) {
-    match applied_row(asked) {
-        Some((lanes, faults)) => { write!(said, "{} {} {}", lanes.get(0), lanes.get(1), faults.0) }
-        None => said.push_str("no numbers"),
+    let mut words = Words::new(asked);
+    let kernel = words.word();
+    let a = pair(words.number(), words.number());
+    let b = pair(words.number(), words.number());
+    let active = words.plane();
+    if words.lacks_number() {
+        return said.push_str("no numbers");
     }
+    let (lanes, faults) = applied(kernel.as_bytes(), &a, &b, active);
+    write!(said, "{} {} {}", lanes.get(0), lanes.get(1), faults.0);
 }
 
 // The result of a kernel on two planes.
@@ -106,21 +93,16 @@ fn combined(kernel: &[u8], p: Plane, q: Plane) -> Plane {
     }
 }
 
-// The result of the kernel of a row on its planes, if they are two.
-fn combined_row(asked: &str) -> Option<Plane> {
-    let mut words = asked.split(' ');
-    let kernel = words.next()?;
-    let p = plane(words.next())?;
-    let q = plane(words.next())?;
-    Some(combined(kernel.as_bytes(), p, q))
-}
-
-// The result of a kernel on its planes.
+// The result of a kernel on its two planes.
 pub fn push_plane(asked: &str, said: &mut Said) {
-    match combined_row(asked) {
-        Some(plane) => write!(said, "{}", plane.0),
-        None => said.push_str("no numbers"),
+    let mut words = Words::new(asked);
+    let kernel = words.word();
+    let p = words.plane();
+    let q = words.plane();
+    if words.lacks_number() {
+        return said.push_str("no numbers");
     }
+    write!(said, "{}", combined(kernel.as_bytes(), p, q).0);
 }
 
 // Rows: a kernel, lanes 0 and 1 of its operands, and the plane of the lanes that count, or that

@@ -5,8 +5,8 @@
 //! its instance: the node under test or the observer, and each call from there. Each element needs
 //! the next one; the first has the least number.
 
+use crate::cases::checked_of;
 use crate::cycles::least_of;
-use crate::sources::checked_of;
 use crate::texts::Said;
 use lb_check::Checked;
 use lb_expand::{FlatError, SizeFault, expand, with_places};

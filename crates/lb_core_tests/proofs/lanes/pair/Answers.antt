@@ -3,7 +3,7 @@ use Rattle.std.proofs.Common.{to_z, of_z, SFits}
 use Rattle.std.proofs.lemmas.Int.{to_z-of_z}
 use Rattle.lb_lanes.specs.Operators.{is_int}
 use Rattle.lb_lanes.proofs.Words.{int_fits}
-use Rattle.lb_tests.proofs.lanes.pair.Goals as goal
+use Rattle.lb_core_tests.proofs.lanes.pair.Goals as goal
 
 chosen : (b : Bool) (v w : ℤ) → is_int v ≡ true → is_int w ≡ true → is_int (cond b v w) ≡ true
 chosen true v w p q = p
