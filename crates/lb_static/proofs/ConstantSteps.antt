@@ -2,13 +2,16 @@
 use Rattle.std.proofs.Common.{◌≡◌, ◌≢◌, ℕ, zero, suc, ◌+◌, ◌-◌, ◌<◌, ◌≤◌, ℤ, Bool, true, false}
 use Rattle.std.proofs.Common.{cond, List, [], ◌∷◌, ◌++◌, length, map, drop, set, get_or}
 use Rattle.std.proofs.Common.{Option, Some, None, is_some, option_map, refl, ap, sym, ◌∙◌, arith}
+use Rattle.std.proofs.Common.{Global, Vec, subst, vec_len}
 use Rattle.std.specs.Prelude.{not, ◌||◌, if◌then◌else◌, nat_lt, nat_eq, position, slice_get}
 use Rattle.std.specs.Borrow.{Bor}
 use Rattle.std.specs.List.{position_or_len}
 use Rattle.std.specs.Str.{bytes_eq}
+use Rattle.std.specs.Vec.{with_items}
 use Rattle.std.proofs.lemmas.Bool.Decides.{nat_tests}
 use Rattle.std.proofs.lemmas.List.{length-map, length-set, get_or-set_same, map-append}
-use Rattle.std.proofs.lemmas.List.{append_assoc}
+use Rattle.std.proofs.lemmas.List.{with_items_is}
+use Rattle.std.proofs.lemmas.List.{append-nil, append_assoc, drop_all}
 use Rattle.std.proofs.lemmas.List.Folds.{find_at}
 use Rattle.std.proofs.lemmas.List.Sums.{sum_by-set, count_by-le-length}
 use Rattle.std.proofs.lemmas.Option.{slice_get-map, slice_get_past, slice_get_within}
@@ -274,6 +277,24 @@ none_at vs n i d as_many below none =
     let within : i < length vs = omega arith in
     slice_get-get_or vs i d within ∙ ap Some (not_some (get_or vs i d) none)
 
+-- a sound table has a place for each constant
+pub place_held : (ks : List (Bor written.Constant)) (vs : List (Option ℤ)) (i : ℕ)
+    → IsSound (read_constants ks) vs → i < length ks → i < length vs
+place_held ks vs i sound below =
+    omega (arith, sound.as_many, length-map ks (λ k. view_constant k.now))
+
+-- one value more is known
+pub known_more : (vs : List (Option ℤ)) (i : ℕ) (v : ℤ) → slice_get vs i ≡ Some None
+    → known vs < known (set vs i (Some v))
+known_more vs i v none = omega (arith, known-set vs i v none)
+
+-- a place with a value is stable
+pub stable_held : (cs : List Constant) (vs : List (Option ℤ)) (i : ℕ) (d : Option ℤ)
+    → is_some (get_or vs i d) ≡ true → IsStable cs vs i
+stable_held cs vs i d some c at none =
+    let e : false ≡ true = sym (ap is_some (get_or_from_slice_get vs i None d none)) ∙ some in
+    absurd cc
+
 -- the value of a static expression is the same under two equal lists of names
 pub value_had : (names other : List Name) (vs : List (Option ℤ)) (s : Static) (o : Option ℤ)
     → names ≡ other
@@ -458,3 +479,40 @@ first_left fs gs k ks i names after below is same first declared known left = (
     unchanged : (b : Bool) → false ≡ not b → (if b then names else names ++ k.name ∷ []) ≡ names
     unchanged true e = refl
     unchanged false e = absurd cc
+
+-- a table whose values were replaced by those of another sound table has these
+pub table_kept : (cs : List Constant) (v : Vec (Option ℤ) Global) (ws : List (Option ℤ))
+    → IsSound cs v.items → IsSound cs ws → (with_items v ws).items ≡ ws
+table_kept cs v ws old new =
+    with_items_is v ws (omega (arith, old.as_many, new.as_many, v.ok.0))
+
+-- a table for some constants whose values were replaced by those of a sound one has these
+pub table_made : (ks : List (Bor written.Constant)) (v : Vec (Option ℤ) Global)
+    (ws : List (Option ℤ)) → vec_len v ≡ length ks → IsSound (read_constants ks) ws
+    → (with_items v ws).items ≡ ws
+table_made ks v ws long new =
+    with_items_is v ws
+    (omega (arith, long, new.as_many, length-map ks (λ k. view_constant k.now)))
+
+-- with one value more, fewer are left to be found
+pub fewer_unknown : (ks : List (Bor written.Constant)) (v : Vec (Option ℤ) Global)
+    (ws : List (Option ℤ))
+    → IsSound (read_constants ks) v.items → IsSound (read_constants ks) ws
+    → known v.items < known ws
+    → length ks - known (with_items v ws).items < length ks - known v.items
+fewer_unknown ks v ws old new more =
+    let few = count_by-le-length is_some ws in
+    let as_many = length-map ks (λ k. view_constant k.now) in
+    let less : length ks - known ws < length ks - known v.items =
+    omega (arith, few, as_many, new.as_many) in
+    subst (λ l. length ks - known l < length ks - known v.items)
+    (sym (table_kept (read_constants ks) v ws old new)) less
+
+-- behind the last constant the first of each name is taken
+pub all_first : (fs : List (Bor written.Constant)) (ks : List written.Constant) (i : ℕ)
+    → length ks ≤ i
+    → AreFirst (read_constants fs ++ map view_constant (drop i ks)) (map view_constant ks)
+    → AreFirst (read_constants fs) (map view_constant ks)
+all_first fs ks i past first x =
+    ap (named (λ c. c.name) x) (sym (append-nil (read_constants fs))
+    ∙ ap (λ l. read_constants fs ++ map view_constant l) (sym (drop_all i ks past))) ∙ first x

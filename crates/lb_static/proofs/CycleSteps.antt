@@ -1,17 +1,19 @@
 -- The steps of the search for a cycle.
 use Rattle.std.proofs.Common.{◌≡◌, ◌≢◌, ℕ, zero, suc, ◌+◌, ◌<◌, ◌≤◌, Bool, true, false, List, []}
-use Rattle.std.proofs.Common.{◌∷◌, ◌++◌, length, map, set, get_or, reverse, Option, Some, None}
+use Rattle.std.proofs.Common.{◌∷◌, ◌++◌, length, map, replicate, set, get_or, reverse, Option}
+use Rattle.std.proofs.Common.{Some, None, Vec, Global}
 use Rattle.std.proofs.Common.{refl, ap, sym, subst, ◌∙◌, ◌⊎◌, inl, inr, arith}
 use Rattle.std.specs.Prelude.{nat_eq, slice_get, if◌then◌else◌}
 use Rattle.std.proofs.lemmas.Bool.Decides.{nat_tests}
 use Rattle.std.proofs.lemmas.List.{length-set, get_or-set_same, reverse-append, reverse-reverse}
-use Rattle.std.proofs.lemmas.List.{map-append, append_assoc}
+use Rattle.std.proofs.lemmas.List.{map-append, append_assoc, length-replicate}
+use borrow.Author.Count.{below_more}
 use Rattle.std.proofs.lemmas.List.Sums.{sum_by_push}
 use Rattle.std.proofs.lemmas.Option.{slice_get-get_or, slice_get_within}
 use Rattle.lb_syntax.specs.Lists.{In}
-use Rattle.lb_static.specs.CallGraphs.{AreWithin, IsCycle, Leads, called}
+use Rattle.lb_static.specs.CallGraphs.{AreWithin, IsCycle, IsOrdered, Leads, called}
 use Rattle.lb_static.specs.CycleSearch.{IsAt, IsBetween, IsVisit, IsPath, IsSearch, IsSearchFrom}
-use Rattle.lb_static.specs.CycleSearch.{Keeps, from_first, unseen, on_path}
+use Rattle.lb_static.specs.CycleSearch.{IsSearchAnswer, Keeps, from_first, unseen, on_path}
 use Rattle.lb_static.specs.declared.cycle.Visit.{Visit}
 use Rattle.lb_static.specs.declared.cycle.Progress.{Progress}
 use Rattle.lb_static.specs.declared.cycle.Progress.TheVariants.{Unseen, Open, Done}
@@ -547,6 +549,66 @@ ends g before ps start path from empty = (
     by : IsAt ps start Open ⊎ IsAt ps start Done → IsAt ps start Done
     by (inl is_open) = absurd (searched.open_on_path start is_open)
     by (inr done) = done
+
+-- ## One search after another
+
+-- before the first search no node is begun
+pub none_begun : (g : List (List ℕ)) (ps : List Progress) (n : ℕ) → ps ≡ replicate n Unseen
+    → n ≡ length g → IsBetween g ps
+none_begun g ps n is as_many = record {
+  as_many = ap length is ∙ length-replicate n Unseen ∙ as_many;
+  done = ([], tt, λ i at. absurd (other i Done at (λ e. absurd cc)));
+  none_open = λ i at. other i Open at (λ e. absurd cc);
+}
+  where
+    alike : (m i : ℕ) (p : Progress) → slice_get (replicate m Unseen) i ≡ Some p → p ≡ Unseen
+    alike zero i p e = absurd cc
+    alike (suc m) zero p e = cc
+    alike (suc m) (suc i) p e = alike m i p e
+
+    other : (i : ℕ) (p : Progress) → IsAt ps i p → (p ≡ Unseen → ⊥) → ⊥
+    other i p at h = h (alike n i p (ap (λ l. slice_get l i) (sym is) ∙ at))
+
+-- between two searches a node is unseen or done
+pub done_between : (g : List (List ℕ)) (ps : List Progress) (i : ℕ) (p : Progress)
+    → IsBetween g ps → IsAt ps i p → (p ≡ Unseen → ⊥) → IsAt ps i Done
+done_between g ps i Unseen between at other = absurd (other refl)
+done_between g ps i Open between at other = absurd (between.none_open i at)
+done_between g ps i Done between at other = at
+
+pub one_more_done : (before after : List Progress) (n : ℕ)
+    → ((i : ℕ) → i < n → IsAt before i Done) → Keeps before after → IsAt after n Done
+    → (i : ℕ) → i < n + 1 → IsAt after i Done
+one_more_done before after n done kept last =
+    below_more (λ i. IsAt after i Done) n (λ i below. kept i (done i below)) last
+
+-- a search that finds no cycle leaves one more node done
+pub searched_more : (g : List (List ℕ)) (before after now : List Progress) (n : ℕ)
+    (found : Option (Vec ℕ Global)) → found ≡ None → IsSearchAnswer g before n after found
+    → now ≡ after → ((i : ℕ) → i < n → IsAt before i Done)
+    → IsBetween g now × ((i : ℕ) → i < n + 1 → IsAt now i Done)
+searched_more g before after now n found is answer same done =
+    let h : IsSearchAnswer g before n after None =
+    subst (IsSearchAnswer g before n after) is answer in
+    subst (λ ps. IsBetween g ps × ((i : ℕ) → i < n + 1 → IsAt ps i Done)) (sym same)
+    (h.0, one_more_done before after n done h.1 h.2)
+
+-- a node that was begun before needs no search
+pub skipped_more : (g : List (List ℕ)) (ps now : List Progress) (n : ℕ) → IsBetween g ps
+    → n < length ps → (get_or ps n Unseen ≡ Unseen → ⊥) → now ≡ ps
+    → ((i : ℕ) → i < n → IsAt ps i Done)
+    → IsBetween g now × ((i : ℕ) → i < n + 1 → IsAt now i Done)
+skipped_more g ps now n between below other same done =
+    let last = done_between g ps n (get_or ps n Unseen) between
+    (slice_get-get_or ps n Unseen below) other in
+    subst (λ l. IsBetween g l × ((i : ℕ) → i < n + 1 → IsAt l i Done)) (sym same)
+    (between, one_more_done ps ps n done (λ i at. at) last)
+
+-- after the last search all nodes stand in an order
+pub all_ordered : (g : List (List ℕ)) (ps : List Progress) (n : ℕ) → IsBetween g ps
+    → length g ≤ n → ((i : ℕ) → i < n → IsAt ps i Done) → IsOrdered g
+all_ordered g ps n between past done =
+    (between.done.0, between.done.1, λ i below. between.done.2 i (done i (omega arith)))
 
 -- ## The measure of the search
 

@@ -1,6 +1,7 @@
 -- The names of the scalar elements of an array: their number, and the names for one index more.
 use Rattle.std.proofs.Common.{◌≡◌, ℕ, zero, suc, ◌+◌, ◌*◌, List, [], ◌∷◌, ◌++◌, length, map, refl}
-use Rattle.std.proofs.Common.{ap, sym, ◌∙◌, arith, length-append}
+use Rattle.std.proofs.Common.{ap, sym, subst, ◌∙◌, arith, length-append}
+use Rattle.std.specs.Prelude.{reverse}
 use Rattle.std.specs.List.{flat_map, range_with_len}
 use Rattle.std.proofs.lemmas.List.{length-map, map-append, append-nil, append_assoc, flat_map_more}
 use Rattle.std.proofs.lemmas.List.FromFn.{length-range_with_len}
@@ -119,6 +120,18 @@ one_variable names data_types k name data_type before after all below within is 
     (named_from names data_types (k + 1))
     ∙ ap (λ l. before ++ l) (sym (first_of names data_types k name data_type below within is same))
     ∙ so_far
+
+-- the elements of variable `k` fit into the 1,023
+pub has_room : (data_types : List stored.DataType) (k : ℕ) (data_type : stored.DataType)
+    (before : Elements) (sizes : List ℕ) → k < length data_types
+    → data_type ≡ get_or data_types k data_type
+    → length before + total (map view_type (drop k data_types)) ≤ 1023
+    → sizes ≡ data_type.sizes.items → length before + product (reverse sizes) ≤ 1023
+has_room data_types k data_type before sizes within same room is =
+    let e : total (map view_type (drop k data_types)) ≡ product (reverse data_type.sizes.items)
+    + total (map view_type (drop (k + 1) data_types)) =
+    total_from data_types k data_type within same in
+    subst (λ l. length before + product (reverse l) ≤ 1023) (sym is) (omega arith)
 
 -- the elements of the variables behind one that was added still fit into the 1,023
 pub has_room_after : (data_types : List stored.DataType) (k : ℕ) (name : Bor Name)

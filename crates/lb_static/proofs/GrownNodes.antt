@@ -2,7 +2,7 @@
 use Rattle.std.proofs.Common.{◌≡◌, ℕ, ◌+◌, ◌<◌, true, List, [], ◌∷◌, ◌++◌, length, take, get_or}
 use Rattle.std.proofs.Common.{map, Option, Some, None, refl, ap, sym, subst, ◌∙◌, length-append}
 use Rattle.std.proofs.lemmas.Bool.{and_from}
-use Rattle.std.proofs.lemmas.List.{map-append, append_assoc, take_more}
+use Rattle.std.proofs.lemmas.List.{append-nil, map-append, append_assoc, take_more}
 use Rattle.std.proofs.lemmas.List.Folds.{list_all-append}
 use Rattle.std.proofs.Math.Bool.{and-true}
 use Rattle.lb_syntax.specs.Tree.{Static, Expr}
@@ -20,6 +20,15 @@ use Rattle.lb_static.specs.declared.resolved.Term.{Term}
 use Rattle.lb_static.proofs.Growth.{expr_stays, unhidden_stays, still_within, static_stays}
 use Rattle.lb_static.proofs.SharedParts.{all_added, kept_longer, kept_twice}
 use Rattle.lb_static.proofs.Growth.{static_still, call_stays, call_still, same_on, all_on, both_on}
+
+pub grown_nothing : (s : Progress) → grown s [] [] ≡ s
+grown_nothing s = λ i. record {
+  source = s.source;
+  node = s.node;
+  declared = s.declared;
+  parts = s.parts;
+  calls = append-nil s.calls i;
+}
 
 pub grown_twice : (s : Progress) (P Q : List Part) (C D : List Site)
     → grown (grown s P C) Q D ≡ grown s (P ++ Q) (C ++ D)

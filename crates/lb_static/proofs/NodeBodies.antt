@@ -26,7 +26,8 @@ use Rattle.lb_static.specs.declared.resolved.ResolvedStatement.{ResolvedStatemen
 use Rattle.lb_static.specs.declared.resolved.ResolvedStatement.TheVariants.{Equation, Assertion}
 use Rattle.lb_static.proofs.Faults.{fault_within}
 use Rattle.lb_static.proofs.Growth.{same_on, all_on, both_on, same_two}
-use Rattle.lb_static.proofs.GrownNodes.{expr_grown, grown_twice, unhidden_grown, within_grown}
+use Rattle.lb_static.proofs.GrownNodes.{expr_grown, grown_nothing, grown_twice}
+use Rattle.lb_static.proofs.GrownNodes.{unhidden_grown, within_grown}
 use Rattle.lb_static.proofs.Resolutions.{flat_more, one_fails}
 
 module _ (s : Progress) (P : List Part) (C : List Site) where
@@ -76,6 +77,12 @@ abbrev pub StatementsSoFar : (start here : Progress) → List tree.Statement →
 StatementsSoFar start here xs statements =
     (here ≡ after_statements start xs) × StatementsStand here xs statements
     × (list_all (statement_fits start) xs ≡ true)
+
+pub none_so_far : (start : Progress) (statements : List ResolvedStatement) → statements ≡ []
+    → StatementsSoFar start start [] statements
+none_so_far start statements none =
+    subst (StatementsSoFar start start []) (sym none)
+    (sym (grown_nothing start), (refl, refl, refl), refl)
 
 one_more_step : (start before after : Progress) (xs : List tree.Statement)
     (statements : List ResolvedStatement)

@@ -1,9 +1,12 @@
 -- The variables of groups of declarations.
 use Rattle.std.proofs.Common.{◌≡◌, ℕ, zero, suc, ◌+◌, ◌<◌, Bool, true, false, List, [], ◌∷◌, ◌++◌}
-use Rattle.std.proofs.Common.{length, take, get_or, map, Option, refl, ap, sym, subst, ◌∙◌, arith}
+use Rattle.std.proofs.Common.{◌≤◌, length, take, get_or, map, Option, refl, ap, sym, subst, ◌∙◌}
+use Rattle.std.proofs.Common.{vec_len, length-append, arith}
 use Rattle.std.specs.Prelude.{◌&&◌, nat_eq, flat_map}
 use Rattle.std.specs.List.{list_all}
 use Rattle.std.proofs.lemmas.List.{append-nil, map-append, take_more, append_assoc}
+use Rattle.std.proofs.lemmas.List.{nil_from_length}
+use Rattle.std.proofs.lemmas.Bool.Decides.{nat_tests}
 use Rattle.std.proofs.lemmas.Bool.{and_from, and_left, and_right}
 use Rattle.std.proofs.lemmas.List.Folds.{list_all-append}
 use Rattle.lb_syntax.specs.Grammar.{Group, declarations, declared}
@@ -27,6 +30,27 @@ use Rattle.lb_static.proofs.Faults.{fault_within}
 use Rattle.lb_static.proofs.Lists.{map_map}
 use Rattle.lb_static.proofs.Resolutions.{flat_more}
 use Rattle.lb_static.proofs.SharedParts.{kept_twice}
+
+-- ## Names and their number
+
+-- a group without a name declares nothing
+pub empty_fits : (s : Progress) (g : Declarations) → nat_eq (vec_len g.names) 0 ≡ true
+    → list_all (declaration_fits s) (declarations (view_group g)) ≡ true
+empty_fits s g e =
+    let none : vec_len g.names ≡ 0 = grind (arith, nat_tests) in
+    let long : length g.names.items ≡ 0 = omega (arith, none, g.names.ok.0) in
+    let h = view_group g in
+    ap (λ l. list_all (declaration_fits s)
+    (map (λ x. record { name = x; kind = h.kind; sizes = h.sizes; clock = h.clock }) l))
+    (nil_from_length g.names.items long)
+
+-- no variable goes where some groups are added
+pub more_declared : (s after : Progress) (gs : List Group) (n m : ℕ) → after ≡ after_groups s gs
+    → n ≡ length s.declared → m ≡ length after.declared → n ≤ m
+more_declared s after gs n m is before later =
+    let e : length after.declared ≡ length s.declared + length (map nameless (declared gs)) =
+    ap (λ k. length k.declared) is ∙ length-append s.declared (map nameless (declared gs)) in
+    omega arith
 
 -- ## Variables that are all alike
 

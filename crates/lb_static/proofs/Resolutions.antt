@@ -33,7 +33,7 @@ use Rattle.std.proofs.lemmas.Option.{slice_get-map, slice_get_within}
 use Rattle.lb_syntax.proofs.ListPlaces.{get_last}
 use Rattle.lb_static.specs.Instances.{Site, sites, sites_in}
 use Rattle.lb_static.specs.NameFaults.{IsNameFault, is_told}
-use Rattle.lb_static.specs.NodeNames.{all_pass, IsCallee}
+use Rattle.lb_static.specs.NodeNames.{all_pass, IsCallee, IsVariableAt}
 use Rattle.lb_static.specs.Names.{is_callable, is_constant, is_static_name}
 use Rattle.lb_static.specs.Parts.{among, variable_names}
 use Rattle.lb_static.specs.declared.resolved.NodePlace.{NodePlace}
@@ -60,9 +60,11 @@ use Rattle.lb_static.specs.declared.resolved.StaticId.{StaticId}
 use Rattle.lb_static.specs.declared.resolved.Term as term
 use Rattle.lb_static.specs.declared.resolved.Term.{Term, Row_of-Term, end_of-Term, more_of-Term}
 use Rattle.lb_static.specs.declared.resolved.Term.{items-the_row-Term, items_hidden-the_row-Term-0}
+use Rattle.lb_static.specs.declared.resolved.VariableId.{VariableId}
 use Rattle.lb_static.proofs.Faults.{fault_within}
 use Rattle.lb_static.proofs.Growth.{count_stays, same_two}
-use Rattle.lb_static.proofs.GrownNodes.{grown_twice, stands_grown, all_stand_grown}
+use Rattle.lb_static.proofs.GrownNodes.{grown_nothing, grown_twice, stands_grown}
+use Rattle.lb_static.proofs.GrownNodes.{all_stand_grown}
 use Rattle.lb_static.proofs.GrownNodes.{static_stands_grown, call_stands_grown, count_within_grown}
 use Rattle.lb_static.proofs.Lists.{map_map}
 use Rattle.lb_static.proofs.Scopes.{among_append}
@@ -549,6 +551,10 @@ abbrev pub SoFar : (start here : Progress) → List Expr → List Term → Type 
 SoFar start here es ts =
     (here ≡ after_exprs start es) × StandAll here es ts × (exprs_pass start es ≡ true)
 
+pub none_done : (s : Progress) (ts : List Term) → ts ≡ [] → SoFar s s [] ts
+none_done s ts none =
+    subst (SoFar s s []) (sym none) (sym (grown_nothing s), (refl, refl, refl), refl)
+
 pub flat_more : {A B : Type 0} (f : A → List B) (xs : List A) (x : A)
     → flat_map f (xs ++ x ∷ []) ≡ flat_map f xs ++ f x
 flat_more f [] x = append-nil (f x)
@@ -692,6 +698,18 @@ static_placed s p id e =
     let within : nat_lt id.0 (length (map (λ q. q.1) more)) ≡ true = grind (arith, nat_tests) in
     (ap (λ o. either_or o (tree.Whole 0)) at, within)
 
+-- the term of a variable in an expression
+pub variable_done : (s : Progress) (x : Name) (place : VariableId) → is_variable_of s x ≡ true
+    → IsVariableAt s.node x place → Done s s (tree.Variable x) (term.Variable place)
+variable_done s x place known at = (
+  sym (grown_nothing s)
+      ∙ ap (λ b. grown s (cond b [] ((Value_role, tree.Named x) ∷ [])) []) (sym known),
+  (ap tree.Variable at.0, at.1, refl),
+  ap (λ b. b || is_constant (program_of s) x)
+      (among_append x (variable_names s.node) s.node.parameters
+      ∙ ap (λ b. b || among x s.node.parameters) known),
+)
+
 -- the term of a static parameter or a constant in an expression
 pub named_done : (s after : Progress) (x : Name) (id : StaticId) → is_variable_of s x ≡ false
     → is_static_name (program_of s) s.node x ≡ true
@@ -715,6 +733,12 @@ named_done s after x id other known is placed =
     by true p c e h = absurd cc
     by false true c e h = ap (λ b. b || c) e
     by false false c e h = ap (λ b. b || c) e ∙ h
+
+pub number_done : (s : Progress) (n : ℕ) → Done s s (tree.Literal n) (term.Literal n)
+number_done s n = (sym (grown_nothing s), (refl, refl, refl), refl)
+
+pub truth_done : (s : Progress) (b : Bool) → Done s s (tree.Truth b) (term.Truth b)
+truth_done s b = (sym (grown_nothing s), (refl, refl, refl), refl)
 
 module _ (before after : Progress) (f : Name) (args : List Static) (place : StaticId × ℕ)
     (count : Option StaticId) (callee : NodePlace)

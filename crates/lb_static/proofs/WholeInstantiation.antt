@@ -1,10 +1,12 @@
 -- The whole instantiation: the instances below the node under test, and then those below the
 -- observer.
 use Rattle.std.proofs.Common.{◌≡◌, ℕ, ℤ, true, List, [], ◌∷◌, ◌++◌, map, length, Option, Some, None}
-use Rattle.std.proofs.Common.{option_map, refl, ap, sym, ◌∙◌, subst}
+use Rattle.std.proofs.Common.{get_or, option_map, refl, ap, sym, ◌∙◌, subst}
 use Rattle.std.specs.Prelude.{slice_get}
-use Rattle.std.specs.List.{zip}
-use Rattle.std.proofs.lemmas.List.{append-nil}
+use Rattle.std.specs.List.{list_all, zip}
+use Rattle.std.proofs.lemmas.List.{append-nil, length-map}
+use Rattle.std.proofs.lemmas.List.Elements.{All-get_or}
+use Rattle.std.proofs.lemmas.List.Sums.{AllPass-from_list_all}
 use Rattle.std.proofs.lemmas.Option.{slice_get-map}
 use Rattle.lb_syntax.specs.Lists.{◌>>=◌, listed}
 use Rattle.lb_syntax.specs.Tree.{Name, Node}
@@ -14,12 +16,13 @@ use Rattle.lb_static.specs.Instances.{node_named, start_at, instance_at, instanc
 use Rattle.lb_static.specs.InstanceTable.{instance_of, specialized_at, specialized_instance_at}
 use Rattle.lb_static.specs.InstanceTable.{HasStatics, HasStarts}
 use Rattle.lb_static.specs.Names.{keeps_names}
-use Rattle.lb_static.specs.ReachedNodes.{IsReached, tree_at}
-use Rattle.lb_static.specs.ResolvedNodes.{node_of, statics_of}
+use Rattle.lb_static.specs.ReachedNodes.{IsReached, are_linked, tree_at}
+use Rattle.lb_static.specs.ResolvedNodes.{counts_of, node_of, statics_of}
+use Rattle.lb_static.specs.ResolvedTerms.{is_site_within}
 use Rattle.lb_static.specs.StaticValues.{constant_value}
 use Rattle.lb_static.specs.Instantiation.{instantiation_refusal}
 use Rattle.lb_static.specs.Instantiated.{IsRefusal, AreEntered, AreJudged, IsJudgedAt, IsKnown}
-use Rattle.lb_static.specs.Instantiated.{IsInstantiable}
+use Rattle.lb_static.specs.Instantiated.{AreSound, IsInstantiable}
 use Rattle.lb_static.specs.declared.constants.Constants.{Constants}
 use Rattle.lb_static.specs.declared.error.StaticError.{StaticError}
 use Rattle.lb_static.specs.declared.reachable.NodeId.{NodeId}
@@ -36,6 +39,21 @@ pub instantiable : (P : Program) (r : Reached) (c : Constants) → keeps_names P
     → IsInstantiable P r c
 instantiable P r c names reached values =
     record { names = names; reached = reached; values = values }
+
+-- the numbers of each reached node are within range, and its callees are reached
+pub all_sound : (P : Program) (r : Reached) → IsReached P r → AreSound r
+all_sound P r w k d below =
+    let nodes = r.nodes.items in
+    let n = get_or nodes k d in
+    let is = w.resolved k d below in
+    record {
+      declared = is.declared_within;
+      calls =
+          subst (λ m. list_all (is_site_within m (counts_of n)) n.calls.items ≡ true)
+          (length-map P.source.nodes (λ m. m.name) ∙ sym w.as_many) is.calls_within;
+      linked = All-get_or (λ m. are_linked r m ≡ true) nodes k d below
+          (AllPass-from_list_all (are_linked r) nodes w.linked);
+    }
 
 pub none_judged : (P : Program) (r : Reached) (l : List Specialization) → l ≡ [] → AreJudged P r l
 none_judged P r l e i s at =

@@ -8,6 +8,7 @@ ghost use Rattle.lb_static.specs.NameFaults.{TellsName, TellsRule};
 
 use crate::causes::{NameFault, NameRule, Sought};
 use crate::error::StaticError;
+use crate::value_faults::constant_named;
 use lb_syntax::{Declarations, Name, Node, Source};
 use std::alloc::{AllocError, Global};
 
@@ -135,10 +136,8 @@ fn first_in_node(node: &Node, name: &Name) -> Option<u32> {
 
 /// The offset of the first constant of a source with this name, or else of its first node.
 fn first_in_source(source: &Source, name: &Name) -> Option<u32> {
-    for constant in &source.constants {
-        if constant.name.as_str() == name.as_str() {
-            return Some(constant.name.offset);
-        }
+    if let Some((_, constant)) = constant_named(&source.constants, name) {
+        return Some(constant.name.offset);
     }
     for node in &source.nodes {
         if node.name.as_str() == name.as_str() {

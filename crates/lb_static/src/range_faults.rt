@@ -6,6 +6,7 @@ use crate::causes::{RangeFault, RangeRole};
 use crate::instance_paths::InstancePlace;
 use crate::instance_values::InstanceValues;
 use crate::resolved::{ResolvedNode, Role, StaticPart, StaticText};
+use crate::root_faults::name_at;
 use crate::slices::part_of;
 use crate::specialize::{LONGEST, WIDEST, size_of};
 use crate::static_value::{StaticInt, static_value};
@@ -103,17 +104,24 @@ fn width(name: &Name, elements: i64) -> Ranged {
     }
 }
 
+/// The name of the variable at a place among the inputs, outputs and locals of a node.
+fn variable_name<'s>(node: &ResolvedNode<'s>, place: usize) -> Option<&'s Name> {
+    if place < node.inputs {
+        return name_at(&node.tree.inputs, place);
+    }
+    let place = place - node.inputs;
+    if place < node.outputs {
+        return name_at(&node.tree.outputs, place);
+    }
+    name_at(&node.tree.locals, place - node.outputs)
+}
+
 /// The first variable of a node with too many elements.
 fn width_fault(node: &ResolvedNode, statics: &[StaticInt]) -> Option<Ranged> {
-    let tree = node.tree;
-    let mut variables = node.variables.iter();
-    for group in tree.inputs.iter().chain(&tree.outputs).chain(&tree.locals) {
-        for name in &group.names {
-            let variable = variables.next()?;
-            let sizes = part_of(statics, variable.first_size.0, variable.sizes);
-            if let Some(found) = width(name, all_elements(sizes)).outside() {
-                return Some(found);
-            }
+    for (place, variable) in node.variables.iter().enumerate() {
+        let elements = all_elements(part_of(statics, variable.first_size.0, variable.sizes));
+        if elements > WIDEST as i64 {
+            return Some(width(variable_name(node, place)?, elements));
         }
     }
     None

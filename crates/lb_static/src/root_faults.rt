@@ -81,7 +81,7 @@ pub fn type_fault(alloc: Global, start: Start, tree: &Node) -> Result<Box<RootFa
 }
 
 /// The name of the variable at a place among some.
-fn name_at(groups: &[Declarations], place: usize) -> Option<&Name> {
+pub fn name_at(groups: &[Declarations], place: usize) -> Option<&Name> {
     let mut left = place;
     for group in groups {
         if let Some(name) = group.names.get(left) {

@@ -6,7 +6,7 @@
 
 ghost use Rattle.std.specs.Prelude.{◌≡◌, pos, IfOk, OnErr};
 ghost use Rattle.lb_syntax.specs.View.{view_static};
-ghost use Rattle.lb_static.specs.Arithmetic.{arithmetic, is_divisible, lawful};
+ghost use Rattle.lb_static.specs.Arithmetic.{arithmetic, is_divisible, lawful, negated};
 ghost use Rattle.lb_static.specs.StaticRange.{IsWithinWord};
 ghost use Rattle.lb_static.specs.StaticValues.{value_under, natural};
 
@@ -134,6 +134,33 @@ pub enum NoValue<'s> {
     },
 }
 
+/// The result of the `-` at this offset, or the fault that it has none.
+fn negated<'s>(operand: StaticInt, offset: u32) -> Result<StaticInt, NoValue<'s>>
+    ensures ok { IfOk result (λ v. negated operand ≡ Some v) }
+    ensures err { OnErr result (negated operand ≡ None) }
+{
+    let operand = operand.get();
+    lawful(-operand).ok_or(NoValue::Negation { operand, offset })
+}
+
+/// The result of the operator at this offset, or the fault that it has none.
+fn combined_or_fault<'s>(
+    operator: BinaryOperator,
+    a: StaticInt,
+    b: StaticInt,
+    offset: u32,
+) -> Result<StaticInt, NoValue<'s>>
+    ensures ok { IfOk result (λ v. arithmetic operator a b ≡ Some v) }
+    ensures err { OnErr result (arithmetic operator a b ≡ None) }
+{
+    combined(operator, a, b).ok_or(NoValue::Operator {
+        operator,
+        left: a.get(),
+        right: b.get(),
+        offset,
+    })
+}
+
 /// The value of a static expression under the values of names, or its first name or operator
 /// without a value. Operands come before their operator.
 pub fn value_or_fault<'s, V: Values>(
@@ -151,22 +178,11 @@ pub fn value_or_fault<'s, V: Values>(
         }),
         Static::Named(x) => values.get(x.as_str()).ok_or(NoValue::Name(x)),
         Static::Grouped(inner, _) => value_or_fault(inner, values),
-        Static::Negated(inner, offset) => {
-            let operand = value_or_fault(inner, values)?.get();
-            lawful(-operand).ok_or(NoValue::Negation {
-                operand,
-                offset: *offset,
-            })
-        }
+        Static::Negated(inner, offset) => negated(value_or_fault(inner, values)?, *offset),
         Static::Combined(op, left, right, offset) => {
             let a = value_or_fault(left, values)?;
             let b = value_or_fault(right, values)?;
-            combined(*op, a, b).ok_or(NoValue::Operator {
-                operator: *op,
-                left: a.get(),
-                right: b.get(),
-                offset: *offset,
-            })
+            combined_or_fault(*op, a, b, *offset)
         }
     }
 }

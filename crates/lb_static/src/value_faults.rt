@@ -11,11 +11,11 @@ use crate::static_value::{NoValue, Values, value_or_fault};
 use lb_syntax::{Constant, Name};
 use std::alloc::{AllocError, Global};
 
-/// The place of the first constant with this name.
-fn constant_place(trees: &[Constant], name: &Name) -> Option<usize> {
+/// The first constant with this name, and its place.
+pub fn constant_named<'s>(trees: &'s [Constant], name: &Name) -> Option<(usize, &'s Constant)> {
     for (place, tree) in trees.iter().enumerate() {
         if tree.name.as_str() == name.as_str() {
-            return Some(place);
+            return Some((place, tree));
         }
     }
     None
@@ -32,13 +32,13 @@ fn constant_fault<'s>(
     let mut seen = vec![in alloc; false; trees.len()]?;
     let mut needed = name;
     for _ in 0..=trees.len() {
-        let Some(place) = constant_place(trees, needed) else {
-            break;
-        };
-        let (Some(tree), Some(is_seen)) = (trees.get(place), seen.get_mut(place)) else {
+        let Some((place, tree)) = constant_named(trees, needed) else {
             break;
         };
         needed = &tree.name;
+        let Some(is_seen) = seen.get_mut(place) else {
+            break;
+        };
         if *is_seen {
             break;
         }

@@ -2,7 +2,7 @@
 use Rattle.std.proofs.Common.{◌≡◌, ◌<◌, ◌++◌, ◌∷◌, [], length, map, option_map, Some, get_or, take}
 use Rattle.std.proofs.Common.{refl, ap, sym, ◌∙◌}
 use Rattle.std.specs.Prelude.{slice_get, string_bytes}
-use Rattle.std.proofs.lemmas.List.{map-append, take_more}
+use Rattle.std.proofs.lemmas.List.{map-append, take_all, take_more}
 use Rattle.std.proofs.lemmas.List.Elements.{All-get_or}
 use Rattle.std.proofs.lemmas.Option.{slice_get-map, slice_get_read}
 use Rattle.lb_syntax.specs.Lists.{either_or}
@@ -35,3 +35,9 @@ loop-turn-preserved c =
     ∙ ap (λ x. names_at r (take turn cycle) ++ x ∷ []) text
     ∙ sym (map-append (name_in r) (take turn cycle) (place ∷ []))
     ∙ ap (names_at r) (sym (take_more cycle turn 0 c.loop-turn-test.true))
+
+pub returns : goal.returns
+returns c =
+    c.loop-turn.invariant
+    ∙ ap (names_at c.args.reached.now)
+    (take_all c.loop-turn.turn c.args.cycle.now c.loop-turn-test.false)

@@ -3,7 +3,7 @@ use Rattle.std.proofs.Common.{◌≡◌, ◌+◌, ap, sym, ◌∙◌, length, no
 use Rattle.std.proofs.lemmas.List.{length-append}
 use Rattle.lb_static.specs.Parts.{among}
 use Rattle.lb_static.specs.Scopes.{declared_after}
-use Rattle.lb_static.proofs.ConstantSteps.{first_left, first_taken}
+use Rattle.lb_static.proofs.ConstantSteps.{all_first, first_left, first_taken}
 use Rattle.lb_static.proofs.constants.first_of_each.Goals as goal
 use Rattle.lb_static.proofs.constants.first_of_each.Goals.{then-branch+in_ok-push, else-branch}
 
@@ -34,3 +34,8 @@ loop-constant-preserved c =
           (sym w.if-branch.false ∙ fresh) same in
           record { same_names = kept.0; first = kept.1; few = omega arith }
     ]
+
+pub returns-clause-first : goal.returns-clause-first
+returns-clause-first c =
+    all_first c.loop-constant.firsts.items c.args.constants.now c.loop-constant.constant-index
+    c.loop-constant-test.false c.loop-constant.invariant.first

@@ -4,7 +4,7 @@ use Rattle.std.proofs.Common.{arith}
 use Rattle.std.proofs.lemmas.List.{length-append}
 use Rattle.std.proofs.lemmas.List.Elements.{All-pop, All-push, All-same}
 use Rattle.lb_static.specs.Tasks.{place_of}
-use Rattle.lb_static.specs.declared.constants.Task.TheVariants.{Evaluate}
+use Rattle.lb_static.specs.declared.constants.Task.TheVariants.{Evaluate, Visit}
 use Rattle.lb_static.proofs.ConstantSteps.{fewer, names_length}
 use Rattle.lb_static.proofs.constants.visit_each.Goals as goal
 
@@ -118,3 +118,20 @@ loop-task-smaller c =
     let left = ap length c.in-Some.ensures.items
     ∙ length-append c.pop.new.self.items (c.in-Some.task ∷ []) in
     omega (arith, left)
+
+pub offset_bounds-constants-place : goal.offset_bounds-constants-place
+offset_bounds-constants-place c =
+    let n = length c.args.constants.now in
+    let taken = All-pop (λ t. place_of t < n) c.loop-task.tasks.items c.pop.new.self.items
+    (Some c.in-Some.task) c.in-Some.ensures.items c.loop-task.invariant.within in
+    let here : c.in-Visit.place < n = subst (λ t. place_of t < n) c.in-Visit.is taken.1 in
+    record { fits = omega (arith, here) }
+
+pub loop-place-preserved : goal.loop-place-preserved
+loop-place-preserved c =
+    let n = length c.args.constants.now in
+    let tasks = c.loop-place.tasks.items in
+    All-same (λ t. place_of t < n) c.push.new.self.items (tasks ++ Visit c.loop-place.place ∷ [])
+    c.in_ok-push.ensures.items
+    (All-push (λ t. place_of t < n) tasks (Visit c.loop-place.place) c.loop-place.invariant
+    c.loop-place-test.true)

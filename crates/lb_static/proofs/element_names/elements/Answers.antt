@@ -7,7 +7,8 @@ use Rattle.std.proofs.lemmas.Slice.Zip.{zip_turn, zip_end}
 use Rattle.lb_syntax.specs.Tree.{Name}
 use Rattle.lb_static.specs.DataTypes.{element_names, total}
 use Rattle.lb_static.specs.StoredTypes.{view_type}
-use Rattle.lb_static.proofs.ElementNames.{named_from, one_variable, has_room_after, all_variables}
+use Rattle.lb_static.proofs.ElementNames.{named_from, one_variable, has_room}
+use Rattle.lb_static.proofs.ElementNames.{has_room_after, all_variables}
 use Rattle.lb_static.proofs.element_names.elements.Goals as goal
 
 pub loop-name-preserved : goal.loop-name-preserved
@@ -68,3 +69,23 @@ returns c =
     c.next.result first second c.loop-name.yielded_by c.in-None.is c.next.ensures.steps in
     all_variables names data_types (length c.loop-name.yielded) c.loop-name.signature
     (named_from names data_types 0) end c.loop-name.invariant.2
+
+pub push_elements-requires : goal.push_elements-requires
+push_elements-requires c =
+    let names = c.args.names.now in
+    let data_types = c.args.data_types.now in
+    let s = c.into_iter-name-iterator.result in
+    let first : iter_rest (zip_first s)
+    ≡ names = ap (λ z. iter_rest (zip_first z))
+    c.into_iter-name-iterator.ensures.into_iter_gives
+    ∙ ap iter_rest c.zip-name-items.ensures.first ∙ c.iter.ensures.rest in
+    let second : iter_rest (zip_second s)
+    ≡ data_types = ap (λ z. iter_rest (zip_second z))
+    c.into_iter-name-iterator.ensures.into_iter_gives ∙ c.zip-name-items.ensures.second.0 in
+    let turn = zip_turn names data_types c.loop-name.yielded s c.loop-name.name-iterator
+    c.next.new.self
+    c.next.result first second c.loop-name.yielded_by (c.in-Some.name, c.in-Some.data_type)
+    c.in-Some.is c.next.ensures.steps in
+    has_room data_types (length c.loop-name.yielded) c.in-Some.data_type.now c.loop-name.signature
+    c.deref.result.now turn.1 (turn.3 c.in-Some.data_type.now) c.loop-name.invariant.3
+    c.deref.ensures.value

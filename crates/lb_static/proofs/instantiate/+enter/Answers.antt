@@ -1,6 +1,6 @@
 -- An instance is entered, then the instances that it calls, one after another.
 use Rattle.std.proofs.Common.{◌≡◌, ◌≤◌, ◌+◌, ◌-◌, ◌++◌, [], true, length, take, get_or, Some, None}
-use Rattle.std.proofs.Common.{Vec, ℕ, List, refl, ap, sym, subst, ◌∙◌, arith, ◌∷◌, suc}
+use Rattle.std.proofs.Common.{Vec, ℕ, List, refl, ap, sym, subst, ◌∙◌, arith, ◌∷◌}
 use Rattle.std.specs.Prelude.{slice_get, IfSome, option_map}
 use Rattle.std.specs.List.{list_all}
 use Rattle.std.specs.declared.alloc.Global.{Global}
@@ -12,7 +12,7 @@ use Rattle.std.proofs.lemmas.Option.{slice_get_read}
 use Rattle.std.proofs.lemmas.Result.{err_from_is_err_and, IfOk-at_ok}
 use Rattle.lb_static.specs.Instances.{Program, Path, Child, children, instances_from, node_sites}
 use Rattle.lb_static.specs.InstanceTable.{instance_of}
-use Rattle.lb_static.specs.ReachedNodes.{source_names}
+use Rattle.lb_static.specs.ReachedNodes.{is_linked, source_names}
 use Rattle.lb_static.specs.ResolvedNodes.{node_of, statics_of, counts_of, IsResolved}
 use Rattle.lb_static.specs.ResolvedTerms.{site_of, is_site_within, Counts}
 use Rattle.lb_static.specs.LinkedSpecializations.{AreLinked}
@@ -32,6 +32,8 @@ use Rattle.lb_static.proofs.InstanceRows.{rows_none, rows_grown, rows_more, rows
 use Rattle.lb_static.proofs.InstanceRows.{known_stands, path_below, used_none, used_more}
 use Rattle.lb_static.proofs.InstanceRows.{used_specialized}
 use Rattle.lb_static.proofs.CallSites.{call_read}
+use Rattle.lb_static.proofs.EntryCounts.{counted_items, few_done, few_more, fuel_below, fuel_here}
+use Rattle.lb_static.proofs.EntryCounts.{more_rows, one_deeper, past_sites, still_above}
 use Rattle.lb_static.proofs.LinkedSpecializations.{called_known, called_later, none_called}
 use Rattle.lb_static.proofs.LinkedSpecializations.{called_next, all_called}
 use Rattle.lb_static.proofs.SiteCounts.{entered_once}
@@ -160,14 +162,19 @@ loop-index-preserved t c =
     let arguments = c.callee_of-callee.result.values.now in
     record {
       room = told.room;
-      few = omega (arith, told.few, inv.few);
-      above = omega (arith, told.more, inv.above);
+      few = few_more (length c.args.entered.now.specializations)
+          (length c.loop-index.entered.specializations)
+          (length c.enter.new.entered.specializations) (c.len-row.result + 1)
+          (length c.loop-index.entered.instances.items) (length c.enter.new.entered.instances.items)
+          told.few inv.few;
+      above = still_above c.len-row.result (length c.loop-index.entered.instances.items)
+          (length c.enter.new.entered.instances.items) told.more inv.above;
       grown = λ i s at. told.grown i s (inv.grown i s at);
       judged = λ P p n m w at am low judged.
           let before = inv.judged P p n m w at am low judged in
-          let deeper : level P (Child p call index) ≡ level_here + 1 = omega arith in
+          let deeper = one_deeper (level P p) level_here low in
           let after = told.ok P (Child p call index) m w am deeper before.0 in
-          let fuel : 66 - (level_here + 1) ≡ 65 - level_here = omega arith in
+          let fuel = fuel_below level_here in
           let here = subst (λ f. AreEntered P (length c.loop-index.entered.instances.items)
           (instances_from P f (instance_of (Child p call index) (node_of m) arguments))
           (length c.enter.new.entered.instances.items)) fuel after.1 in
@@ -191,7 +198,7 @@ loop-index-preserved t c =
       known = told.known;
       none = λ e. absurd cc;
       linked_calls = λ P p n m w at am low judged linked_calls.
-          let deeper : level P (Child p call index) ≡ level_here + 1 = omega arith in
+          let deeper = one_deeper (level P p) level_here low in
           told.linked_calls P (Child p call index) m w am deeper
           (inv.judged P p n m w at am low judged).0
           (inv.linked_calls P p n m w at am low judged linked_calls);
@@ -214,9 +221,10 @@ loop-index-preserved t c =
           let child = instance_of (Child p call index) (node_of m) arguments in
           let before = inv.judged P p n m w at am low judged in
           let stood = inv.stand P p n m w at am low judged path in
-          let deeper : level P (Child p call index) ≡ level_here + 1 = omega arith in
-          let fuel : 66 - (level_here + 1) ≡ 65 - level_here = omega arith in
-          let place : c.len-row.result ≡ length old = omega (arith, c.len-row.ensures) in
+          let deeper = one_deeper (level P p) level_here low in
+          let fuel = fuel_below level_here in
+          let place = counted_items c.args.entered.now.instances c.len-row.result c.len-row.ensures
+          in
           let under = path_below r so_far old c.loop-index.entered.instances.items from p
           c.len-row.result (calls ++ indexes) (record { 0 = call }) index place path stood in
           let after = told.stand P (Child p call index) m w am deeper before.0 under in
@@ -263,16 +271,16 @@ returns-in_err-id-clause-err t c =
     begun.0.evaluated_as items call no_call callee.node m callee.values.now callee.count
     is same c.loop-call-test.true c.callee_of-callee.ensures.node am arguments times in
     let before = c.loop-index.invariant.judged P p n m w at am low judged in
-    let deeper : level P (Child p call index) ≡ level_here + 1 = omega arith in
-    let fuel : 66 - (level_here + 1) ≡ 65 - level_here = omega arith in
+    let deeper = one_deeper (level P p) level_here low in
+    let fuel = fuel_below level_here in
     let entered = length c.loop-index.entered.instances.items in
     let refused = subst (λ f. IsRefusal
     (instantiation_refusal P entered (instances_from P f
     (instance_of (Child p call index) (node_of m) callee.values.now))) c.in_err-id.field-0.0)
     fuel
     (c.in_err-id.ensures.err P (Child p call index) m w am deeper before.0) in
-    let row : c.len-row.result + 1 ≡ length c.args.entered.now.instances.items + 1 =
-    omega (arith, c.len-row.ensures) in
+    let row = ap (λ k. k + 1)
+    (counted_items c.args.entered.now.instances c.len-row.result c.len-row.ensures) in
     refused_below P p n values level_here (length c.args.entered.now.instances.items)
     (c.len-row.result + 1) call
     (site_of (source_names P) (statics_of n) (get_or items call no_call)) m callee.values.now
@@ -422,9 +430,11 @@ returns-clause-ok t c =
     let sites = ap length is.calls in
     let as_many = length-map n.calls.items (site_of (source_names P) (statics_of n)) in
     let items = ap length same in
-    let past : length (node_sites (node_of n)) ≤ c.loop-call.call =
-    omega (arith, sites, as_many, items, c.loop-call-test.false) in
-    let row : c.len-row.result + 1 ≡ before + 1 = omega (arith, c.len-row.ensures) in
+    let past = past_sites (length (node_sites (node_of n))) (length n.calls.items)
+    (length c.deref-site-items.result.now) c.loop-call.call (sym as_many ∙ sites) items
+    c.loop-call-test.false in
+    let row = ap (λ k. k + 1)
+    (counted_items c.args.entered.now.instances c.len-row.result c.len-row.ensures) in
     let entered = all_entered P p n values level_here before (c.len-row.result + 1) c.loop-call.call
     (length c.loop-call.entered.instances.items) c.requires.low row begun.1 past so_far.1 in
     let here = λ (q : Path) (k : ResolvedNode) (found : slice_get nodes c.args.entry.node.0
@@ -460,16 +470,14 @@ returns-clause-linked_calls t c =
     (c.index.ensures ∙ get_or_from_slice_get nodes c.args.entry.node.0 n c.index.result.now
     at) in
     let items = ap length same in
-    let past : length n.calls.items ≤ c.loop-call.call =
-    omega (arith, items, c.loop-call-test.false) in
+    let past = subst (λ k. k ≤ c.loop-call.call) items c.loop-call-test.false in
     IfOk-at_ok _ e (c.add_specialization.ensures.linked_calls r n at so_far.0
     (all_called r statics c.loop-call.entered.specializations n.calls.items
     c.loop-call.callees.items c.loop-call.call past so_far.1)))
 
 pub returns-clause-used : goal.returns-clause-used
 returns-clause-used t c =
-    let place : c.len-row.result ≡ length c.args.entered.now.instances.items =
-    omega (arith, c.len-row.ensures) in
+    let place = counted_items c.args.entered.now.instances c.len-row.result c.len-row.ensures in
     ok_when c.add_specialization.result _ (λ x e.
     used_specialized c.args.entered.now.specializations c.loop-call.entered.specializations
     c.add_specialization.new.entered.specializations
@@ -480,8 +488,7 @@ returns-clause-used t c =
 
 pub returns-clause-callers : goal.returns-clause-callers
 returns-clause-callers t c =
-    let place : c.len-row.result ≡ length c.args.entered.now.instances.items =
-    omega (arith, c.len-row.ensures) in
+    let place = counted_items c.args.entered.now.instances c.len-row.result c.len-row.ensures in
     ok_when c.add_specialization.result _ (λ x e. λ here all.
     callers_specialized c.args.entered.now.specializations c.loop-call.entered.specializations
     c.args.entered.now.instances.items c.loop-call.entered.instances.items
@@ -502,7 +509,7 @@ returns-clause-stand t c =
     let so_far = c.loop-call.entered.specializations in
     let now = c.add_specialization.new.entered.specializations in
     let middle = c.loop-call.entered.instances.items in
-    let place : c.len-row.result ≡ length old = omega (arith, c.len-row.ensures) in
+    let place = counted_items c.args.entered.now.instances c.len-row.result c.len-row.ensures in
     ok_when c.add_specialization.result _ (λ x e. λ P p n w at low judged path.
     let is = element_all (IsResolved (source_names P)) nodes node.0 n w.reached.resolved at in
     let same = c.deref-site-items.ensures.value
@@ -511,8 +518,9 @@ returns-clause-stand t c =
     let sites = ap length is.calls in
     let as_many = length-map n.calls.items (site_of (source_names P) (statics_of n)) in
     let items = ap length same in
-    let past : length (node_sites (node_of n)) ≤ c.loop-call.call =
-    omega (arith, sites, as_many, items, c.loop-call-test.false) in
+    let past = past_sites (length (node_sites (node_of n))) (length n.calls.items)
+    (length c.deref-site-items.result.now) c.loop-call.call (sym as_many ∙ sites) items
+    c.loop-call-test.false in
     let here = instance_of p (node_of n) values in
     let calls = of_calls P p n values level_here c.loop-call.call in
     let grown = rows_grown r so_far now rows middle calls
@@ -527,7 +535,48 @@ returns-clause-stand t c =
     from p
     c.len-row.result x here (below P p n values level_here (children P here))
     place path stands under (IfOk-at_ok _ e c.add_specialization.ensures.placed) in
-    let fuel : 66 - level_here ≡ suc (65 - level_here) = omega (arith, c.requires.low) in
+    let fuel = fuel_here level_here c.requires.low in
     subst (λ f. HasRows r now old c.add_specialization.new.entered.instances.items
     (instances_from P f here))
     (sym fuel) all)
+
+pub callee_of-callee-requires-clause-linked : goal.callee_of-callee-requires-clause-linked
+callee_of-callee-requires-clause-linked t c =
+    let r = c.args.reached.now in
+    let n = c.index.result.now in
+    let items = c.deref-site-items.result.now in
+    let sound : IsSoundNode r n = subst (IsSoundNode r) (sym c.index.ensures)
+    (All-get_or (IsSoundNode r) r.nodes.items c.args.entry.node.0 n c.requires.within
+    c.requires.sound) in
+    let passes = subst (λ (l : List CallSite). list_all (is_linked r) l ≡ true)
+    (sym c.deref-site-items.ensures.value) sound.linked in
+    All-get_or (λ s. is_linked r s ≡ true) items c.loop-call.call no_call c.loop-call-test.true
+    (AllPass-from_list_all (is_linked r) items passes)
+
+pub returns-clause-more : goal.returns-clause-more
+returns-clause-more t c =
+    let place = counted_items c.args.entered.now.instances c.len-row.result c.len-row.ensures in
+    ok_when c.add_specialization.result _ (λ x e.
+    more_rows (length c.args.entered.now.instances.items) c.len-row.result
+    (length c.loop-call.entered.instances.items)
+    (length c.add_specialization.new.entered.instances.items) place c.loop-call.invariant.above
+    (IfOk-at_ok _ e c.add_specialization.ensures.rows))
+
+pub returns-clause-room : goal.returns-clause-room
+returns-clause-room t c =
+    ok_when c.add_specialization.result _ (λ x e.
+    subst (λ k. k ≤ 4096) (sym (IfOk-at_ok _ e c.add_specialization.ensures.rows))
+    c.loop-call.invariant.room)
+
+pub returns-clause-few : goal.returns-clause-few
+returns-clause-few t c =
+    let place = counted_items c.args.entered.now.instances c.len-row.result c.len-row.ensures in
+    ok_when c.add_specialization.result _ (λ x e.
+    few_done (length c.args.entered.now.specializations)
+    (length c.loop-call.entered.specializations)
+    (length c.add_specialization.new.entered.specializations)
+    (length c.args.entered.now.instances.items) c.len-row.result
+    (length c.loop-call.entered.instances.items)
+    (length c.add_specialization.new.entered.instances.items) place c.loop-call.invariant.few
+    (IfOk-at_ok _ e c.add_specialization.ensures.more)
+    (IfOk-at_ok _ e c.add_specialization.ensures.rows))

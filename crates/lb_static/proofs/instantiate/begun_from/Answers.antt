@@ -1,5 +1,5 @@
 -- An instance is judged by the evaluation of its node, or by the specialization that was found.
-use Rattle.std.proofs.Common.{◌∙◌, Ok, Err, subst}
+use Rattle.std.proofs.Common.{◌∙◌, Ok, Err, ap, length, subst}
 use Rattle.std.specs.Borrow.{Bor}
 use Rattle.std.proofs.lemmas.Option.{get_or_from_slice_get}
 use Rattle.std.proofs.lemmas.Result.{err_from_is_err_and}
@@ -7,8 +7,10 @@ use Rattle.lb_static.specs.HeldValues.{value_of}
 use Rattle.lb_static.specs.InstanceTable.{instance_of}
 use Rattle.lb_static.specs.ResolvedNodes.{node_of}
 use Rattle.lb_static.specs.Specialized.{IsEvaluated, value_given}
+use Rattle.lb_static.specs.declared.resolved.ResolvedNode.{ResolvedNode}
 use Rattle.lb_static.specs.declared.table.Specialization.{Specialization}
 use Rattle.lb_static.specs.declared.table.SpecializationId.{SpecializationId}
+use Rattle.lb_static.proofs.EntryCounts.{as_many_items}
 use Rattle.lb_static.proofs.InstanceSteps.{begun_ill, begun_well, judgement, known_judged, sized_at}
 use Rattle.lb_static.proofs.instantiate.begun_from.Goals as goal
 
@@ -65,3 +67,12 @@ returns-clause-judged c = λ P p n before w at k few low.
     (subst (λ m. IsEvaluated (value_given (value_of constants) (node_of m).parameters values) m
     (Ok statics)) same here) in
     (judged, begun_well P before (instance_of p (node_of n) values) n statics.items few low judged)
+
+pub returns-then-len-clause-sized : goal.returns-then-len-clause-sized
+returns-then-len-clause-sized c n at =
+    let resolved = c.index-resolved.result.now in
+    ap length (c.in_ok-held.ensures.items ∙ c.deref.ensures.value)
+    ∙ as_many_items c.in-Some.specialization.now.statics resolved.statics c.len.result
+    c.len-in-Some.result c.len.ensures c.len-in-Some.ensures c.if-len.true
+    ∙ ap (λ (m : ResolvedNode). length m.statics.items) (c.index-resolved.ensures
+    ∙ get_or_from_slice_get c.args.place.now.reached.now.nodes.items c.args.node.0 n resolved at)

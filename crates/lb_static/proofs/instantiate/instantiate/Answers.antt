@@ -18,7 +18,8 @@ use Rattle.lb_static.specs.declared.table.Specialization.{Specialization}
 use Rattle.lb_static.specs.declared.table.Table.{Table}
 use Rattle.lb_static.proofs.LinkedSpecializations.{none_linked, are_specialized}
 use Rattle.lb_static.proofs.InstanceSteps.{known_later}
-use Rattle.lb_static.proofs.WholeInstantiation.{instantiable, none_judged, root_is, observer_is}
+use Rattle.lb_static.proofs.WholeInstantiation.{all_sound, instantiable, none_judged, root_is}
+use Rattle.lb_static.proofs.WholeInstantiation.{observer_is}
 use Rattle.lb_static.proofs.WholeInstantiation.{no_observer, refused_first, refused_second}
 use Rattle.lb_static.proofs.WholeInstantiation.{instantiated_alone, instantiated_both, has_starts}
 use Rattle.lb_static.proofs.WholeInstantiation.{observer_stands, none_stands, alone_are, both_are}
@@ -285,3 +286,9 @@ returns-clause-rows c = λ P names reached values.
           (listed ∙ ap (λ e. e.specializations) b.entered-is)
           (ap (λ e. e.instances.items) b.entered-is)
     ]
+
+pub enter-requires-clause-sound : goal.enter-requires-clause-sound
+enter-requires-clause-sound c = all_sound c.requires.0 c.args.reached.now c.requires.1
+
+pub enter-requires-in-Some-clause-sound : goal.enter-requires-in-Some-clause-sound
+enter-requires-in-Some-clause-sound c = all_sound c.requires.0 c.args.reached.now c.requires.1

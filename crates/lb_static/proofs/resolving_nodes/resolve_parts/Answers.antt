@@ -10,6 +10,7 @@ use Rattle.lb_static.proofs.FinishedNodes.{groups_after, groups_fit, groups_refu
 use Rattle.lb_static.proofs.FinishedNodes.{inputs_counted, outputs_counted}
 use Rattle.lb_static.proofs.NamedNodes.{all_fit, inputs_fault, outputs_fault, locals_fault}
 use Rattle.lb_static.proofs.NamedNodes.{body_fault}
+use Rattle.lb_static.proofs.NodeVariables.{more_declared}
 use Rattle.lb_static.proofs.resolving_nodes.resolve_parts.Goals as goal
 
 pub returns-in_err-resolve_groups-clause-err : goal.returns-in_err-resolve_groups-clause-err
@@ -141,3 +142,9 @@ returns-clause-outputs c =
     let all = c.variable_count.ensures
     ∙ outputs_counted n s (progress c.resolve_groups-2.new.here) c.requires d in
     omega (arith, inputs, all)
+
+pub overflow_sub-outputs : goal.overflow_sub-outputs
+overflow_sub-outputs c =
+    more_declared (progress c.resolve_groups.new.here) (progress c.resolve_groups-2.new.here)
+    (view_groups c.deref-2.result.now) c.variable_count-inputs.result c.variable_count.result
+    c.in_ok-resolve_groups-2.ensures.ok c.variable_count-inputs.ensures c.variable_count.ensures

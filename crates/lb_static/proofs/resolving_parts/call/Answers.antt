@@ -1,14 +1,17 @@
 -- A call with its callee and its static arguments.
 use Rattle.std.proofs.Common.{◌≡◌, true, ap, length, refl, sym, subst}
-use Rattle.std.specs.Prelude.{nat_lt}
+use Rattle.std.specs.Prelude.{nat_lt, option_map}
 use Rattle.std.proofs.lemmas.List.{length-map}
+use Rattle.std.proofs.lemmas.Result.{err_from_is_err_and}
 use Rattle.lb_syntax.specs.View.{view_static, view_statics}
 use Rattle.lb_static.specs.NodeNames.{program_in, IsCallee}
-use Rattle.lb_static.specs.NodeProgress.{callees, program_of}
+use Rattle.lb_static.specs.NodeProgress.{callees, program_of, texts}
 use Rattle.lb_static.specs.Progressed.{progress}
 use Rattle.lb_static.specs.ReachedNodes.{source_names}
+use Rattle.lb_static.specs.ResolvedTerms.{static_at}
 use Rattle.lb_static.specs.StaticParts.{arguments_of}
 use Rattle.lb_static.specs.declared.resolved.CallSite.{CallSite}
+use Rattle.lb_static.proofs.RefusedParts.{callee_fault}
 use Rattle.lb_static.proofs.Resolutions.{call_resolved, site_placed}
 use Rattle.lb_static.proofs.resolving_parts.call.Goals as goal
 
@@ -54,3 +57,11 @@ returns c =
     called c.requires
     mid c.push_call.result found.0 found.1 found.2 c.push_call.ensures.after c.push_call.ensures.id
     c.push_call.ensures.err
+
+pub returns-in_err-callee : goal.returns-in_err-callee
+returns-in_err-callee c =
+    let p = err_from_is_err_and c.from_residual.result c.from_residual.ensures.1 in
+    let s = progress c.args.here.now in
+    rw (p.1, p.2) (callee_fault s c.in_err-callee.field-0.0 (program_in c.node_scope.result.now)
+    c.args.name.now c.args.arguments.now (option_map (static_at (texts s).statics) c.args.count)
+    c.node_scope.ensures.source c.in_err-callee.ensures.err)

@@ -1,9 +1,11 @@
 -- One more statement that is resolved, and one that is refused.
 use Rattle.std.proofs.Common.{◌+◌, map, sym, subst, take}
+use Rattle.std.proofs.lemmas.List.{take_all}
 use Rattle.std.proofs.lemmas.Result.{err_from_is_err_and}
 use Rattle.lb_syntax.specs.SourceView.{view_statement}
 use Rattle.lb_static.specs.Progressed.{progress}
 use Rattle.lb_static.proofs.NodeBodies.{StatementsSoFar, fault_of_statement, next_step}
+use Rattle.lb_static.proofs.NodeBodies.{none_so_far}
 use Rattle.lb_static.proofs.resolving_statements.resolve_statements.Goals as goal
 
 pub returns-in_err-resolve_statement : goal.returns-in_err-resolve_statement
@@ -27,3 +29,15 @@ loop-statement-preserved c =
     subst (λ l. StatementsSoFar start after
     (map view_statement (take (c.loop-statement.statement-index + 1) body)) l)
     (sym c.in_ok-push.ensures.items) r
+
+pub loop-statement-init : goal.loop-statement-init
+loop-statement-init c =
+    none_so_far (progress c.args.here.now) c.new-statements.result.items
+    c.new-statements.ensures.items
+
+pub returns : goal.returns
+returns c =
+    subst (λ l. StatementsSoFar (progress c.args.here.now) (progress c.loop-statement.here)
+    (map view_statement l) c.loop-statement.statements.items)
+    (take_all c.loop-statement.statement-index c.args.body.now c.loop-statement-test.false)
+    c.loop-statement.invariant

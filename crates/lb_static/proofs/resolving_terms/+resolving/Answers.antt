@@ -1,6 +1,7 @@
 -- An expression whose parts are resolved is resolved, and a fault of a part is its own.
 use Rattle.std.proofs.Common.{◌≡◌, ℕ, ◌+◌, Bool, Ok, refl, Vec, Global, Option, None, Some, List}
 use Rattle.std.proofs.Common.{map, take, ap, sym, subst, ◌∙◌, [], ◌∷◌}
+use Rattle.std.proofs.lemmas.List.{take_all}
 use Rattle.std.proofs.lemmas.Result.{err_from_is_err_and}
 use Rattle.std.specs.Prelude.{◌&&◌, Box, Err, IsErrAnd, Result, length, nat_lt}
 use Rattle.std.proofs.lemmas.Bool.{and_from as both, and_left as false_first}
@@ -34,6 +35,8 @@ use Rattle.lb_static.specs.declared.resolved.Term.{Term}
 use Rattle.lb_static.proofs.Faults.{fault_within}
 use Rattle.lb_static.proofs.Growth.{same_two}
 use Rattle.lb_static.proofs.Resolutions.{Done, AllDone, SoFar, site_for, call_done, size_done}
+use Rattle.lb_static.proofs.RefusedParts.{call_refused, node_refused}
+use Rattle.lb_static.proofs.Resolutions.{none_done, number_done, truth_done}
 use Rattle.lb_static.proofs.Resolutions.{sized_call_done, call_term_done, iterate_node_done}
 use Rattle.lb_static.proofs.Resolutions.{iterate_symbol_done, fault_after_call, fault_after_node}
 use Rattle.lb_static.proofs.Resolutions.{fault_after_symbol, fault_of_item, next_done, two_done}
@@ -710,3 +713,55 @@ terms-loop-e-preserved t c =
     c.loop-e.invariant c.in_ok-term.ensures in
     subst (λ l. SoFar start after (map view (take (c.loop-e.e-index + 1) es)) l)
     (sym c.in_ok-push.ensures.items) r
+
+pub terms-loop-e-init : goal.terms-loop-e-init
+terms-loop-e-init t c =
+    none_done (progress c.args.here.now) c.new-all.result.items c.new-all.ensures.items
+
+pub terms-returns : goal.terms-returns
+terms-returns t c =
+    subst (λ l. SoFar (progress c.args.here.now) (progress c.loop-e.here) (map view l)
+    c.loop-e.all.items) (take_all c.loop-e.e-index c.args.es.now c.loop-e-test.false)
+    c.loop-e.invariant
+
+pub term-returns-in-Literal : goal.term-returns-in-Literal
+term-returns-in-Literal t c =
+    rw c.in-Literal.is (number_done (progress c.args.here.now) c.in-Literal.n)
+
+pub term-returns-in-Truth : goal.term-returns-in-Truth
+term-returns-in-Truth t c =
+    rw c.in-Truth.is (truth_done (progress c.args.here.now) c.in-Truth.b)
+
+pub term-returns-in-Variable : goal.term-returns-in-Variable
+term-returns-in-Variable t c = rw c.in-Variable.is c.named.ensures
+
+pub boxed-returns : goal.boxed-returns
+boxed-returns t c =
+    subst (Done (progress c.args.here.now) (progress c.term.new.here) (view c.args.e.now))
+    (sym c.in_ok-new.ensures.ok) c.in_ok-term.ensures
+
+pub term-returns-in_err-site-in-Call : goal.term-returns-in_err-site-in-Call
+term-returns-in_err-site-in-Call t c =
+    let before = progress c.args.here.now in
+    let f = c.in_err-site-in-Call.field-0.0 in
+    exit_refused before _ c.args.e.now _ c.from_residual-in_err-site-in-Call.result f c.in-Call.is
+    c.from_residual-in_err-site-in-Call.ensures.1
+    (call_refused before f c.in-Call.callee c.deref-in-Call.result.now c.in-Call.statics
+    c.in-Call.arguments (ap view_statics c.deref-in-Call.ensures.value)
+    c.in_err-site-in-Call.ensures)
+
+pub term-returns-in_err-site-in-Node : goal.term-returns-in_err-site-in-Node
+term-returns-in_err-site-in-Node t c =
+    let before = progress c.args.here.now in
+    let mid = progress c.one_static-in-Iterate.new.here in
+    let f = c.in_err-site-in-Node.field-0.0 in
+    let n = c.in-Iterate.n in
+    let size = c.in_ok-size-in-Iterate.ensures in
+    exit_refused before _ c.args.e.now _ c.from_residual-in_err-site-in-Node.result f
+    c.in-Iterate.is c.from_residual-in_err-site-in-Node.ensures.1
+    (node_refused before mid f c.in-Iterate.iterator c.in-Iterate.operator c.in-Node.callee
+    c.deref-in-Node.result.now c.in-Node.statics (sym c.as_ref.ensures ∙ c.in-Node.is) n
+    c.in-Iterate.arguments c.in-Iterate.field-4
+    (static_at (texts mid).statics c.in_ok-size-in-Iterate.size)
+    ((Size, view_static n) ∷ []) size.0 (ap view_statics c.deref-in-Node.ensures.value) size.1.0
+    c.in_err-site-in-Node.ensures)

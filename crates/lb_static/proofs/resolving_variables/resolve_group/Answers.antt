@@ -1,5 +1,5 @@
 -- The variables of a group are alike.
-use Rattle.std.proofs.Common.{◌≡◌, Ok, length, false, true, arith, subst}
+use Rattle.std.proofs.Common.{◌≡◌, ◌∙◌, Ok, length, false, true, arith, subst, sym}
 use Rattle.std.specs.Prelude.{nat_eq}
 use Rattle.std.proofs.lemmas.Bool.Decides.{nat_tests}
 use Rattle.std.proofs.lemmas.Result.{err_from_is_err_and, on_ok_weaker}
@@ -9,7 +9,8 @@ use Rattle.lb_static.specs.NameFaults.{IsNameFault}
 use Rattle.lb_static.specs.NodeProgress.{ResolvesStatics, statics_fit, statics_told, with_alike}
 use Rattle.lb_static.specs.Progressed.{progress}
 use Rattle.lb_static.specs.StaticParts.{Dimension}
-use Rattle.lb_static.proofs.NodeVariables.{clock_fault, sizes_fault, group_done, group_fits}
+use Rattle.lb_static.proofs.NodeVariables.{clock_fault, sizes_fault, empty_fits, group_done}
+use Rattle.lb_static.proofs.NodeVariables.{group_fits}
 use Rattle.lb_static.proofs.resolving_variables.resolve_group.Goals as goal
 
 pub returns-in_err-clock-clause-err : goal.returns-in_err-clock-clause-err
@@ -66,3 +67,8 @@ returns-clause-fit c =
     c.in_ok-first_size.ensures.2 in
     on_ok_weaker c.push_variables.result (λ d. group_fits s g sizes c.in_ok-clock.ensures.fit)
     c.push_variables.ensures.ok
+
+pub returns-then-is_empty-clause-fit : goal.returns-then-is_empty-clause-fit
+returns-then-is_empty-clause-fit c =
+    empty_fits (progress c.args.here.now) c.args.group.now
+    (sym c.is_empty.ensures ∙ c.if-is_empty.true)

@@ -1,6 +1,11 @@
 -- One more group of variables.
-use Rattle.std.proofs.Common.{refl}
+use Rattle.std.proofs.Common.{◌≡◌, refl, subst, true}
+use Rattle.std.specs.List.{list_all}
+use Rattle.std.proofs.lemmas.List.{take_all}
 use Rattle.std.proofs.lemmas.Result.{err_from_is_err_and}
+use Rattle.lb_syntax.specs.Grammar.{declared}
+use Rattle.lb_syntax.specs.SourceView.{view_groups}
+use Rattle.lb_static.specs.NodeProgress.{after_groups, declaration_fits}
 use Rattle.lb_static.specs.Progressed.{progress}
 use Rattle.lb_static.proofs.NodeVariables.{group_fault, next_fits, next_group, no_groups}
 use Rattle.lb_static.proofs.resolving_variables.resolve_groups.Goals as goal
@@ -29,3 +34,17 @@ loop-group-preserved c =
       next_fits start here groups i group c.loop-group-test.true c.group-item.is
           c.loop-group.invariant.0 c.loop-group.invariant.1 c.in_ok-resolve_group.ensures.fit,
     )
+
+pub returns-clause-ok : goal.returns-clause-ok
+returns-clause-ok c =
+    subst (λ l. progress c.loop-group.here
+    ≡ after_groups (progress c.args.here.now) (view_groups l))
+    (take_all c.loop-group.group-index c.args.groups.now c.loop-group-test.false)
+    c.loop-group.invariant.0
+
+pub returns-clause-fit : goal.returns-clause-fit
+returns-clause-fit c =
+    subst (λ l. list_all (declaration_fits (progress c.args.here.now)) (declared (view_groups l))
+    ≡ true)
+    (take_all c.loop-group.group-index c.args.groups.now c.loop-group-test.false)
+    c.loop-group.invariant.1

@@ -1,6 +1,7 @@
 -- A new key goes to the end, with its specialization.
 use Rattle.std.proofs.Common.{◌≡◌, ◌∙◌, sym, ap, refl, subst, ◌∷◌, ◌++◌, [], None, map, length, ◌+◌}
-use Rattle.std.proofs.Common.{◌<◌, arith, inl, inr}
+use Rattle.std.proofs.Common.{◌<◌, ℕ, Fits, arith, inl, inr}
+use mir.Syntax.{w32}
 use Rattle.std.proofs.lemmas.List.{length-map, length-append}
 use Rattle.indexmap.specs.IndexMap.{keys}
 use Rattle.lb_static.specs.KeyedSpecializations.{AreKeyed, IsUnknown}
@@ -70,3 +71,18 @@ overflow_cast-result c =
     let many : length entries ≡ length c.args.self.now =
     sym (length-map entries (λ e. e.1)) ∙ ap length c.self.view_is in
     record { fits = omega (arith, c.in-Some.ensures.within, c.requires.few) }
+
+-- a place in a list with one item more fits as long as the list before it did
+narrow : (place count old : ℕ) → place < count → count ≡ old + 1 → old < 4294967296
+    → Fits w32 place
+narrow place count old within more few = record { fits = omega arith }
+
+pub overflow_cast-result-2 : goal.overflow_cast-result-2
+overflow_cast-result-2 c =
+    let es = c.self.inside.keyed.entries in
+    let more = ap length (after c)
+    ∙ length-append es ((c.in_ok-key.key, c.args.specialization) ∷ []) in
+    let many = sym (length-map es (λ e. e.1)) ∙ ap length c.self.view_is in
+    narrow c.in_ok-place.place (length c.insert_full.new.self.entries) (length es)
+    c.in_ok-place.ensures.within more
+    (subst (λ n. n < 4294967296) (sym many) c.requires.few)
