@@ -6,7 +6,9 @@ ghost use Rattle.lb_syntax.specs.Lists.{listed};
 ghost use Rattle.lb_static.specs.ReachedNodes.{tree_at};
 
 use crate::part::Part;
-use lb_static::{CallPath, NodeId, Origin, Reached, Table, VariableId, call_path};
+use lb_static::{
+    CallPath, NodeId, Origin, Reached, SpecializationId, Table, VariableId, call_path,
+};
 use lb_syntax::{Declarations, Name, Node, Sampling};
 use std::alloc::{AllocError, Global};
 
@@ -36,6 +38,14 @@ pub fn path_to_specialization(
     call_path(alloc, reached, &table.instances, Origin::UnderTest)
 }
 
+/// Whether a specialization is of this node.
+fn is_of_node(table: &Table, specialization: SpecializationId, id: NodeId) -> bool {
+    match table.specializations.get(specialization.0 as usize) {
+        Some(specialization) => specialization.node.0 == id.0,
+        None => false,
+    }
+}
+
 /// The way to the first instance of a node.
 pub fn path_to_node(
     alloc: Global,
@@ -44,14 +54,8 @@ pub fn path_to_node(
     id: NodeId,
 ) -> Result<CallPath, AllocError> {
     for instance in &table.instances {
-        match table
-            .specializations
-            .get(instance.specialization.0 as usize)
-        {
-            Some(specialization) if specialization.node.0 == id.0 => {
-                return call_path(alloc, reached, &table.instances, instance.origin);
-            }
-            _ => {}
+        if is_of_node(table, instance.specialization, id) {
+            return call_path(alloc, reached, &table.instances, instance.origin);
         }
     }
     call_path(alloc, reached, &table.instances, Origin::UnderTest)
@@ -139,17 +143,19 @@ pub fn clock_offset(node: &Node, variable: VariableId) -> u32 {
     name.offset
 }
 
+/// The offset at which a statement of a node begins.
+fn statement_offset(node: &Node, place: usize) -> u32 {
+    match node.body.get(place) {
+        Some(statement) => statement.offset(),
+        None => 0,
+    }
+}
+
 /// The offset at which a part of a node begins.
 pub fn part_offset(reached: &Reached, id: NodeId, part: Part) -> u32 {
-    let Some(node) = reached.nodes.get(id.0) else {
-        return 0;
-    };
-    let node = node.tree;
-    match part {
-        Part::Variable(variable) => variable_offset(node, variable),
-        Part::Statement(place) => match node.body.get(place) {
-            Some(statement) => statement.offset(),
-            None => 0,
-        },
+    match (reached.nodes.get(id.0), part) {
+        (Some(node), Part::Variable(variable)) => variable_offset(node.tree, variable),
+        (Some(node), Part::Statement(place)) => statement_offset(node.tree, place),
+        (None, _) => 0,
     }
 }

@@ -143,11 +143,13 @@ fn lefts_reason(
     left_reason(env, lefts, place, Some(clock), statement)
 }
 
-/// Whether a result with this clock stands on the clock of its left variable.
-fn is_result_on(env: &ClockEnv, found: Option<Clock>, left: VariableId) -> bool {
-    match found {
-        Some(clock) => is_same(clock, env.variable(left)),
-        None => false,
+/// Whether a result with this clock stands on the clock of the left variable at a place, if there
+/// is one.
+fn is_result_on(env: &ClockEnv, found: Option<Clock>, lefts: &[VariableId], place: usize) -> bool {
+    match (lefts.get(place), found) {
+        (Some(left), Some(clock)) => is_same(clock, env.variable(*left)),
+        (Some(_), None) => false,
+        (None, _) => true,
     }
 }
 
@@ -160,9 +162,9 @@ fn results_reason(
     lefts: &[VariableId],
     statement: &Statement,
 ) -> ClockReason {
-    for (place, (output, left)) in outputs_of(callee).iter().zip(lefts.iter()).enumerate() {
+    for (place, output) in outputs_of(callee).iter().enumerate() {
         let found = expected(base, given, output.clock);
-        if !is_result_on(env, found, *left) {
+        if !is_result_on(env, found, lefts, place) {
             return left_reason(env, lefts, place, found, statement);
         }
     }

@@ -7,7 +7,7 @@ ghost use Rattle.lb_static.specs.ReachedNodes.{tree_at};
 use crate::cause::{declared_variable, name_of, part_offset, path_to_node, variable_offset};
 use crate::definition_fault::{DefinitionFault, DefinitionRule};
 use crate::part::{IllFormed, Part};
-use crate::sites::{Site, right_side};
+use crate::sites::{Site, left_offset, right_side};
 use lb_static::{CallId, Reached, ResolvedNode, ResolvedStatement, Table, Term, VariableId};
 use lb_syntax::Statement;
 use std::alloc::{AllocError, Global};
@@ -163,17 +163,30 @@ fn note_lefts(
     resolved: &ResolvedStatement,
     statement: &Statement,
 ) -> Result<(), AllocError> {
-    let (ResolvedStatement::Equation(lefts, _), Statement::Equation(names, _, _)) = (
-        resolved, statement,
-    ) else {
+    let ResolvedStatement::Equation(lefts, _) = resolved else {
         return Ok(());
     };
-    for (left, name) in lefts.iter().zip(names.iter()) {
+    for (place, left) in lefts.iter().enumerate() {
         if left.0 == variable.0 {
-            definitions.push(name.offset)?;
+            definitions.push(left_offset(statement, place))?;
         }
     }
     Ok(())
+}
+
+/// The offsets at which a variable of a node stands on left sides.
+fn offsets_of(
+    alloc: Global,
+    node: &ResolvedNode,
+    variable: VariableId,
+) -> Result<Vec<u32>, AllocError> {
+    let mut definitions = Vec::new(alloc);
+    for (place, statement) in node.tree.body.iter().enumerate() {
+        if let Some(resolved) = node.body.get(place) {
+            note_lefts(&mut definitions, variable, resolved, statement)?;
+        }
+    }
+    Ok(definitions)
 }
 
 /// The offsets at which a part that is a variable stands on left sides.
@@ -182,13 +195,10 @@ fn definitions_of(
     reached: &Reached,
     found: IllFormed,
 ) -> Result<Vec<u32>, AllocError> {
-    let mut definitions = Vec::new(alloc);
-    if let (Some(node), Part::Variable(variable)) = (reached.nodes.get(found.node.0), found.part) {
-        for (resolved, statement) in node.body.iter().zip(node.tree.body.iter()) {
-            note_lefts(&mut definitions, variable, resolved, statement)?;
-        }
+    match (reached.nodes.get(found.node.0), found.part) {
+        (Some(node), Part::Variable(variable)) => offsets_of(alloc, node, variable),
+        _ => Ok(Vec::new(alloc)),
     }
-    Ok(definitions)
 }
 
 /// The fault of definitions of this part.

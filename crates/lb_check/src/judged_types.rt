@@ -40,7 +40,7 @@ fn move_all(parts: &mut PartTypes, found: &mut NodeTypes) -> Result<(), AllocErr
 fn is_settled(settled: &[bool], k: usize) -> bool
     ensures { result ≡ holds (λ b. b) (slice_get settled.now k) }
 {
-    matches!(settled.get(k), Some(true))
+    k < settled.len() && settled[k]
 }
 
 /// The place of the first statement that breaks the rules of types. Where there is none, the types

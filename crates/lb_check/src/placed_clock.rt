@@ -64,11 +64,7 @@ pub fn argument_clocks(
 {
     let mut clocks = Vec::new(alloc);
     for input in inputs_of(callee) {
-        let clock = match expected(Some(base), given, input.clock) {
-            Some(clock) => clock,
-            None => base,
-        };
-        clocks.push(clock)?;
+        clocks.push(expected(Some(base), given, input.clock).unwrap_or(base))?;
     }
     Ok(clocks)
 }

@@ -173,6 +173,19 @@ fn left_reason<'t>(
     }
 }
 
+/// Whether a left variable has the type of its result.
+fn is_like(
+    alloc: Global,
+    env: &TypeEnv,
+    left: VariableId,
+    right: &DataType,
+) -> Result<bool, AllocError> {
+    match env.variable(alloc, left)? {
+        Some(declared) => Ok(right.equals(&declared)),
+        None => Ok(false),
+    }
+}
+
 /// The place of the first result that has another type than its left variable, if there is one.
 fn first_unlike(
     alloc: Global,
@@ -180,10 +193,12 @@ fn first_unlike(
     lefts: &[VariableId],
     rights: &[DataType],
 ) -> Result<Option<usize>, AllocError> {
-    for (place, (left, right)) in lefts.iter().zip(rights.iter()).enumerate() {
-        match env.variable(alloc, *left)? {
-            Some(declared) if right.equals(&declared) => {}
-            _ => return Ok(Some(place)),
+    for (place, right) in rights.iter().enumerate() {
+        let Some(left) = lefts.get(place) else {
+            return Ok(None);
+        };
+        if !is_like(alloc, env, *left, right)? {
+            return Ok(Some(place));
         }
     }
     Ok(None)

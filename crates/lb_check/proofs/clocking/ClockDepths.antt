@@ -140,6 +140,23 @@ first_known depths x d first A lt (inl e) =
     subst (IsKnown (set depths x (Some d))) e.1 (known_here depths x d lt)
 first_known depths x d first A lt (inr k) = still_known depths x d first k
 
+known_some : (depths : List (Option ℕ)) (x : ℕ) (o : Option ℕ) → slice_get depths x ≡ Some o
+    → is_some o ≡ true → IsKnown depths x
+known_some depths x None at e = absurd cc
+known_some depths x (Some d) at e = (d, at)
+
+-- the depth of the first variable is known, where that of the variable at hand is
+pub first_noted : (depths : List (Option ℕ)) (x first : ℕ) (o : Option ℕ) (A : Type 0) →
+    x < length depths → is_some (get_or depths x o) ≡ true
+    → (A × (x ≡ first)) ⊎ IsKnown depths first → IsKnown depths first
+first_noted depths x first o A lt e (inl p) =
+    subst (IsKnown depths) p.1
+    (known_some depths x (get_or depths x o) (slice_get-get_or depths x o lt) e)
+first_noted depths x first o A lt e (inr k) = k
+
+pub less_small : (depth above most : ℕ) → depth ≤ most → depth - above ≤ most
+less_small depth above most small = omega arith
+
 pub more_depths : (vs : List Variable) (depths : List (Option ℕ)) (x d : ℕ) → AreDepths vs depths →
     HasDepth vs d x → d ≤ length vs
     → AreDepths vs (set depths x (Some d))

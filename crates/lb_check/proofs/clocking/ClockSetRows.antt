@@ -151,5 +151,31 @@ pub fit_next : (base : Option Clock) (given : ℕ → Option VariableId) (vs : L
     && all_fit base given (clocks_of (drop (i + 1) vs)) (clock_sets (drop (i + 1) os)))
 fit_next base given vs os i v o lv lo = rw (drop_more vs i v lv) (rw (drop_more os i o lo) refl)
 
+-- the operand at a place is judged, and found to fit or not
+pub fit_at : (base : Option Clock) (given : ℕ → Option VariableId) (vs : List Variable)
+    (os : List Operand) (i : ℕ) (v : Variable) (o : Operand) (k : Option Clock)
+    (judged found whole : Bool) → i < length vs → i < length os
+    → k ≡ expected base given (get_or vs i v).clock
+    → judged ≡ accepts_clock k (get_or os i o).clock_set → judged ≡ found
+    → whole ≡ all_fit base given (clocks_of (drop i vs)) (clock_sets (drop i os))
+    → whole
+    ≡ (found && all_fit base given (clocks_of (drop (i + 1) vs)) (clock_sets (drop (i + 1) os)))
+fit_at base given vs os i v o k judged found whole lv lo clock test is known =
+    let later = all_fit base given (clocks_of (drop (i + 1) vs)) (clock_sets (drop (i + 1) os)) in
+    known ∙ fit_next base given vs os i v o lv lo
+    ∙ ap (λ b. b && later)
+    (ap (λ l. accepts_clock l (get_or os i o).clock_set) (sym clock) ∙ sym test ∙ is)
+
+-- the operand at a place determines this base clock, or none
+pub base_at : (vs : List Variable) (os : List Operand) (i : ℕ) (v : Variable) (o : Operand)
+    (own found whole : Option Clock) → i < length vs → i < length os
+    → own ≡ base_of ((get_or vs i v).clock ∷ []) ((get_or os i o).clock_set ∷ []) → own ≡ found
+    → whole ≡ base_of (clocks_of (drop i vs)) (clock_sets (drop i os))
+    → whole ≡ or_else found
+    (base_of (clocks_of (drop (i + 1) vs)) (clock_sets (drop (i + 1) os)))
+base_at vs os i v o own found whole lv lo is same known =
+    let later = base_of (clocks_of (drop (i + 1) vs)) (clock_sets (drop (i + 1) os)) in
+    known ∙ base_next vs os i v o lv lo ∙ ap (λ k. or_else k later) (sym is ∙ same)
+
 -- the rules for rows of operands beside their parameters
 pub ruleset beside = (base_next, base_short, fit_next, fit_short)

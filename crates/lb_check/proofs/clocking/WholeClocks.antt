@@ -13,7 +13,7 @@ use Words.{waits_below, is_clocked_by, list_all, ◌>>=◌, all_some, both_ways,
 use Words.{Specialization, Table, instance_of, Instance, Root, Child, Site, callee_of, instances}
 use Words.{node_named, node_sites, static_value, id_at, tree_at, callee_in, texts_of}
 use Words.{is_statement_unhidden, is_clocked, IsJudged, SeesClocks, is_statement_single}
-use Words.{is_part_clocked, is_typed, nat_tests, same_Some, bind_some, counts_of, is_call}
+use Words.{is_part_clocked, is_typed, same_Some, bind_some, counts_of, is_call}
 use Words.{find, not}
 use Rattle.{std.proofs.lemmas.Bool.and_left, lb_check.specs.BrokenParts.awaitable}
 use Rattle.std.proofs.lemmas.Option.{slice_get_past}
@@ -286,6 +286,9 @@ same_all f g [] each = refl
 same_all f g (x ∷ xs) each =
     ap₂ (λ b c. b && c) (each 0 x refl) (same_all f g xs (λ i y e. each (suc i) y e))
 
+still_below : (a b c : ℕ) → a < b → b < c → a < c
+still_below a b c low high = omega arith
+
 module _ (P : Program) (r : Reached) (t : Table) (j : IsJudged P r t) where
   -- ## The callees of a node
 
@@ -322,7 +325,7 @@ module _ (P : Program) (r : Reached) (t : Table) (j : IsJudged P r t) where
       let place = bind_some (id_at r called_site.0.callee)
       (λ id. slice_get r.nodes.items id.0) m called_site.2 in
       let is_there = slice_get_within n.calls.items c.0 called_site.0 called_site.1 in
-      let in_node : is_call (counts_of n) c ≡ true = grind (arith, nat_tests) in
+      let in_node : is_call (counts_of n) c ≡ true = lt-ltb c.0 (length n.calls.items) is_there in
       let here_site = site_found P r j.names j.reached s.node.0 n at c in_node in
       let found = callee_found P r j.names j.reached s.node.0 n at c in_node in
       let site = here_site.0 in
@@ -332,12 +335,12 @@ module _ (P : Program) (r : Reached) (t : Table) (j : IsJudged P r t) where
       let root_is = specialized_instance P r t j.reached j.table s n Root at in
       let as_many = sp.0.as_many root root_is in
       let here_lt = slice_get_within (node_sites (node_of n)) c.0 site site_is in
-      let called : c.0 < length s.callees.items = omega (arith, as_many, here_lt) in
+      let called = subst (λ k. c.0 < k) (sym as_many) here_lt in
       let id = item_at s.callees.items c.0 called in
       let before = sp.1 id.0 (c.0, called, get_or_from_slice_get s.callees.items c.0 id.0 id.0 id.1)
       in
       let last = slice_get_within t.specializations.items i s is in
-      let there : id.0.0 < length t.specializations.items = omega (arith, before, last) in
+      let there = still_below id.0.0 i (length t.specializations.items) before last in
       let callee = item_at t.specializations.items id.0.0 there in
       let callee_sp = j.table.specialized id.0.0 callee.0 callee.1 in
       let callee_n = node_at P r t j.reached j.table callee.0 callee_sp.0 in
@@ -352,7 +355,7 @@ module _ (P : Program) (r : Reached) (t : Table) (j : IsJudged P r t) where
       ap (λ s. node_named P s.callee) (sym here_site.2) ∙ found.2
       ∙ ap (λ m. Some (node_of m)) callee_is in
       let one : Some (node_of callee_n.0) ≡ Some (node_of m) = sym by_table ∙ by_name in
-      let tree : node_of callee_n.0 ≡ node_of m = cc in
+      let tree = same_Some (node_of callee_n.0) (node_of m) one in
       clocks_at P r j.names j.reached place.0.0 m place.2
       (subst (λ k. are_declared_clocks k ≡ true) tree
       (all id.0.0 callee.0 before callee.1 callee_n.0 callee_n.1))

@@ -4,8 +4,9 @@ use Rattle.lb_check.proofs.Words.{take, drop, map, Some, refl, ap, sym, ◌∙�
 use Rattle.lb_check.proofs.Words.{and_from, and_first, and_second, ◌++◌, subst, Every, ◌-◌, ◌≤◌}
 use Rattle.lb_check.proofs.Words.{length, get_or, reverse, append_assoc, drop_all, drop_more}
 use Rattle.lb_check.proofs.Words.{reverse-append, false, cond, Option, None, is_some, not}
-use Rattle.lb_check.proofs.Words.{option_map, and-true, listed, at_place, first_broken, list_all}
-use Rattle.lb_check.proofs.Words.{or_else}
+use Rattle.lb_check.proofs.Words.{and-true, listed, at_place, first_broken, list_all}
+use Rattle.lb_check.proofs.Words.{or_else, append-nil, map-append}
+use Rattle.std.proofs.lemmas.List.{take_more}
 use Rattle.std.specs.List.{position_from}
 
 -- The items of two lists, place by place.
@@ -118,6 +119,43 @@ module _ {A B : Type 0} (R : A → B → Type 0) where
       let same : z ≡ x = cc in (y, refl, subst (λ w. R w y) same h.0)
   paired_at (z ∷ xs) (y ∷ ys) (suc i) x h e = paired_at xs ys i x h.1 e
 
+-- ## Results that are added one after another
+
+pub mapped_next :
+    {A B : Type 0} (f : A → B) (xs : List A) (i : ℕ) (d : A) (done more whole : List B) (y : B) →
+    i < length xs → y ≡ f (get_or xs i d) → more ≡ done ++ (y ∷ []) →
+    whole ≡ done ++ map f (drop i xs) → whole ≡ more ++ map f (drop (i + 1) xs)
+mapped_next f xs i d done more whole y lt is pushed known =
+    let rest = map f (drop (i + 1) xs) in
+    known ∙ ap (λ l. done ++ map f l) (drop_more xs i d lt)
+    ∙ ap (λ z. done ++ (z ∷ rest)) (sym is) ∙ sym (append_assoc done (y ∷ []) rest)
+    ∙ ap (λ l. l ++ rest) (sym pushed)
+
+pub mapped_end : {A B : Type 0} (f : A → B) (xs : List A) (i : ℕ) (done whole : List B) →
+    length xs ≤ i → whole ≡ done ++ map f (drop i xs) → whole ≡ done
+mapped_end f xs i done whole le known =
+    known ∙ ap (λ l. done ++ map f l) (drop_all i xs le) ∙ append-nil done
+
+pub taken_more : {A B : Type 0} (f : A → B) (xs : List A) (i : ℕ) (x : A) (done more : List B)
+    (y : B) → i < length xs → x ≡ get_or xs i x → y ≡ f x → more ≡ done ++ (y ∷ []) →
+    done ≡ map f (take i xs) → more ≡ map f (take (i + 1) xs)
+taken_more f xs i x done more y lt is same pushed known =
+    pushed ∙ ap (λ l. l ++ (y ∷ [])) known
+    ∙ ap (λ z. map f (take i xs) ++ (z ∷ [])) (same ∙ ap f is)
+    ∙ sym (map-append f (take i xs) (get_or xs i x ∷ []))
+    ∙ ap (map f) (sym (take_more xs i x lt))
+
+-- ## Items that are tested one after another
+
+-- the item at a place is tested, and found to pass or to fail
+pub tested_at :
+    {A : Type 0} (f : A → Bool) (xs : List A) (i : ℕ) (d : A) (tested found whole : Bool) →
+    i < length xs → tested ≡ f (get_or xs i d) → tested ≡ found → whole ≡ list_all f (drop i xs) →
+    whole ≡ (found && list_all f (drop (i + 1) xs))
+tested_at f xs i d tested found whole lt test is known =
+    known ∙ ap (list_all f) (drop_more xs i d lt)
+    ∙ ap (λ b. b && list_all f (drop (i + 1) xs)) (sym test ∙ is)
+
 -- Lists that are read, or that grow, from the last item to the first.
 
 -- a list grows by `ys`, and then by the items `xs` that stand before them
@@ -164,6 +202,21 @@ module _ {A : Type 0} (f : A → Bool) where
       known ∙ ap (broken_from i) (drop_more all i x lt)
       ∙ ap (λ c. cond (not c) (Some i) (broken_from (i + 1) (drop (i + 1) all)))
       (sym (ap f is) ∙ e)
+
+  -- each item passes, where the search comes to the end of the list
+  pub none_broken : (read all : List A) (i : ℕ) → length read ≤ i → read ≡ all →
+      first_broken f read ≡ broken_from i (drop i read) → None ≡ first_broken f all
+  none_broken read all i le same known =
+      sym (sym (ap (first_broken f) same) ∙ known ∙ ap (broken_from i) (drop_all i read le))
+
+  -- the first item that fails is found at place `i`
+  pub broken_here : (read all : List A) (i : ℕ) (x : A) → i < length read → x ≡ get_or read i x →
+      read ≡ all → first_broken f read ≡ broken_from i (drop i read) → f x ≡ false →
+      Some i ≡ first_broken f all
+  broken_here read all i x lt is same known e =
+      sym (sym (ap (first_broken f) same) ∙ known ∙ ap (broken_from i) (drop_more read i x lt)
+      ∙ ap (λ c. cond (not c) (Some i) (broken_from (i + 1) (drop (i + 1) read)))
+      (sym (ap f is) ∙ e))
 
   -- one more item is judged, after others of which `broken` is the first that fails
   pub broken_next : (whole broken next : Option ℕ) (all : List A) (i : ℕ) (x : A) →

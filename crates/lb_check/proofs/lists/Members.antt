@@ -1,6 +1,6 @@
 -- Members of lists: statements on each item, lists in which nothing stands twice, distinct names.
 use Rattle.lb_check.proofs.Words
-use Words.{false_from_ne_true, ◌||◌, reverse, IfSome, list_all, list_any, range_with_len}
+use Words.{false_from_ne_true, reverse, IfSome, list_all, range_with_len}
 use Words.{reverse-append, Every, some_of, and_first, and_second, ◌⊎◌, inl, inr, ◌≤◌, ap, ◌∙◌, In}
 use Words.{in_map, length, not, nat_lt, slice_get, ◌==◌, bytes_eq, nat_tests, bytes_eq-Decides}
 use Words.{not-true, Name, or_first, or_second, among, are_distinct, ◌≡◌, ℕ, zero, suc, ◌+◌, ◌<◌}
@@ -98,12 +98,6 @@ Every-of_range Q a (suc n) h = (
 )
 
 -- ## Lists that are equal piece by piece
-
-pub any_same :
-    {A : Type 0} (f g : A → Bool) (xs : List A) → Every (λ x. f x ≡ g x) xs →
-    list_any f xs ≡ list_any g xs
-any_same f g [] h = refl
-any_same f g (x ∷ xs) h = ap₂ (λ a b. a || b) h.0 (any_same f g xs h.1)
 
 pub flat_same :
     {A B : Type 0} (f g : A → List B) (xs : List A) → Every (λ x. f x ≡ g x) xs →

@@ -1,7 +1,7 @@
 -- Two histories that agree on instances: they have the same streams, rules and verdict.
 use Rattle.lb_check.proofs.Words
 use Words.{Bool, ◌≡◌, ℕ, ◌+◌, true, Option, Some, None, List, [], ◌∷◌, ◌++◌, flat_map, refl, ap₂}
-use Words.{IfSome, list_all, Every, Name, Statement, Equation, Assertion, and_first, and_second}
+use Words.{IfSome, list_all, list_any, Every, Name, Statement, Equation, Assertion, and_first}
 use Words.{Program, Instance, node_sites, among, clock_names, variables, is_clocked}
 use Words.{are_declared_clocks, Occurrence, statements, node_occurrences, AgreeAt, streams_at}
 use Words.{History, is_typed, ◌&&◌, nat_le, nat_lt, range_with_len, nat_tests, same_Some, either_or}
@@ -11,10 +11,11 @@ use Words.{callee_of, start_at, instance_at, site_instances, children, instances
 use Words.{node_sizes, is_between, is_in_range, has_values, may_enter, instance_refusal}
 use Words.{instantiation_refusal, check_refusal, AreSame, ◌⊎◌, inl, inr, length, ◌∙◌, ◌||◌}
 use Words.{static_refusal, Inputs, Solves, zero, suc, ◌<◌, ◌≤◌, map, ap, sym, subst, arith}
-use Words.{memory_operand}
+use Words.{memory_operand, and_second}
 use Rattle.{lb_syntax.proofs.TruthValues.contrary}
 use Rattle.lb_static.{specs.Instantiation.level, proofs.SiteCounts.{passes, counted, node_counts}}
-use Rattle.lb_check.specs.{Solutions.HasOneHistory, Verdicts.{assertion_of, assertions}}
+use Rattle.lb_check.specs.{Scalars.{Cell, Stream}, Solutions.HasOneHistory}
+use Rattle.lb_check.specs.Verdicts.{assertion_of, assertions}
 use Rattle.lb_check.specs.Verdicts.{memory_operands, variable_columns, memory_columns}
 use Rattle.lb_check.specs.Verdicts.{assertion_columns, named_places, clock_variables, clock_columns}
 use Rattle.lb_check.specs.Verdicts.{Verdict, Passed, Fault, Undefined, Assertion_fails, False}
@@ -27,7 +28,7 @@ use Rattle.lb_check.proofs.{definitions.BrokenRules.instantiation_kept, lists.Me
 use Rattle.lb_check.proofs.lists.Members.{Every-filter, Every-found, Every-tested, flat_same}
 use Rattle.lb_check.proofs.lists.Members.{Every-map, Every-both, Every-all, Every-first}
 use Rattle.lb_check.proofs.lists.Members.{Every-second, Every-piece, Every-of_pieces, Every-finds}
-use Rattle.lb_check.proofs.{lists.Members.{Every-range, any_same}, programs.SameStreams.Same}
+use Rattle.lb_check.proofs.{lists.Members.Every-range, programs.SameStreams.Same}
 use Rattle.lb_check.proofs.programs.SameStreams.{IsSame, KeepsSame, StandsHere, known, streams_same}
 use Rattle.lb_check.proofs.programs.SameStreams.{keeps_same}
 use Rattle.lb_check.proofs.programs.StandingParts.{StatementStands, node_stands}
@@ -346,6 +347,15 @@ starts_agree P H G same =
 
 -- ## Histories that decide alike
 
+-- where the columns of each instance are the same, a test finds a cell in both or in none
+tested_same : (f g : Instance → List Stream) (heres : List Instance) →
+    Every (λ here. f here ≡ g here) heres → (test : Option Cell → Bool) (t : ℕ) →
+    list_any (λ here. some_at test t (f here)) heres
+    ≡ list_any (λ here. some_at test t (g here)) heres
+tested_same f g [] h test t = refl
+tested_same f g (here ∷ rest) h test t =
+    ap₂ (λ a b. a || b) (ap (some_at test t) h.0) (tested_same f g rest h.1 test t)
+
 -- two histories decide alike at each instant
 record DecideAlike (P : Program) (H G : History) : Type 0 where
   fault : (t : ℕ) → is_fault P H t ≡ is_fault P G t
@@ -396,21 +406,25 @@ module _ (P : Program) (H G : History) (same : AreSame P H G) where
     decide_alike : DecideAlike P H G
     decide_alike =
         let places = all_same_places P instantiated accepted H G same in
+        let named = Every-map (SamePlaces P H G)
+        (λ here. named_places P H here ≡ named_places P G here) (λ here p. p.named)
+        (instances P) places in
+        let clocks = Every-map (SamePlaces P H G)
+        (λ here. clock_columns H here ≡ clock_columns G here) (λ here p. p.clocks)
+        (instances P) places in
+        let asserted = Every-map (SamePlaces P H G)
+        (λ here. assertion_columns P H here ≡ assertion_columns P G here) (λ here p. p.asserted)
+        (instances P) places in
+        let of_named = tested_same (named_places P H) (named_places P G) (instances P) named in
+        let of_clocks = tested_same (clock_columns H) (clock_columns G) (instances P) clocks in
+        let of_asserted =
+        tested_same (assertion_columns P H) (assertion_columns P G) (instances P) asserted in
         record {
-          fault = λ t.
-              any_same _ _ (instances P)
-              (Every-map _ _ (λ here p. ap (some_at is_bad t) p.named) (instances P) places);
+          fault = of_named is_bad;
           undefined = λ t.
-              ap₂ (λ a b. a || b)
-              (any_same _ _ (instances P)
-              (Every-map _ _ (λ here p. ap (some_at is_nil t) p.clocks) (instances P) places))
-              (ap₂ (λ a b. a || b)
-              (any_same _ _ (instances P)
-              (Every-map _ _ (λ here p. ap (some_at is_nil t) p.asserted) (instances P) places))
-              (ap (some_at is_nil t) property_same));
-          failed = λ t.
-              any_same _ _ (instances P)
-              (Every-map _ _ (λ here p. ap (some_at is_false t) p.asserted) (instances P) places);
+              ap₂ (λ a b. a || b) (of_clocks is_nil t)
+              (ap₂ (λ a b. a || b) (of_asserted is_nil t) (ap (some_at is_nil t) property_same));
+          failed = of_asserted is_false;
           violated = λ t. ap (some_at is_false t) property_same;
         }
 

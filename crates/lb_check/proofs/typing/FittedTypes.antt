@@ -232,6 +232,12 @@ unfound x (d ∷ ds) e =
     let no = unequal x d.name (or_first (bytes_eq x d.name) _ e) in
     rw no (unfound x ds (or_second (bytes_eq x d.name) _ e))
 
+-- a static expression that is the name of no variable
+named_static : (names : List Name) (st : Static) → is_no_variable names st ≡ true →
+    (x : Name) × (st ≡ Named x) × (among x names ≡ false)
+named_static names (Named x) u = (x, refl, not-true _ u)
+named_static names _ u = absurd cc
+
 -- The context that the code reads of a specialization is what the definitions say of its instances.
 
 module _ (P : Program) (r : Reached) (t : Table) (s : Specialization) (n : ResolvedNode) (p : Path)
@@ -293,20 +299,14 @@ module _ (P : Program) (r : Reached) (t : Table) (s : Specialization) (n : Resol
   value_is i w u =
       let h = static_held i w in
       let same = ap (λ o. either_or o (Whole 0)) h.1 in
-      ap (λ st. data_types P here (named_value st)) same
-      ∙ by h.0 (slice_get s.statics.items i.0)
-      (subst (λ st. is_no_variable names st ≡ true) same u)
-      (value_at P here (statics_of n) s.statics.items valued i h.0 h.1)
-    where
-      by : (st : Static) (v : Option ℤ) → is_no_variable names st ≡ true →
-          static_value P here st ≡ v →
-          data_types P here (named_value st) ≡ singly (constant_type v)
-      by (Named x) v u e =
-          ap (λ o. singly (either_or (option_map (variable_type P here) o)
-          (constant_type (name_value P here x))))
-          (unfound x (variables (node_of n)) (not-true _ u))
-          ∙ ap (λ o. singly (constant_type o)) e
-      by _ v u e = absurd cc
+      let x = named_static names h.0 (subst (λ st. is_no_variable names st ≡ true) same u) in
+      let value = ap (static_value P here) (sym x.1)
+      ∙ value_at P here (statics_of n) s.statics.items valued i h.0 h.1 in
+      ap (λ st. data_types P here (named_value st)) (same ∙ x.1)
+      ∙ ap (λ o. singly (either_or (option_map (variable_type P here) o)
+      (constant_type (name_value P here x.0))))
+      (unfound x.0 (variables (node_of n)) x.2)
+      ∙ ap (λ o. singly (constant_type o)) value
 
   pub static_is : (i : StaticId) → is_static (counts_of n) i ≡ true →
       static_count P here (static_at (statics_of n) i) ≡ count_at s.statics.items i

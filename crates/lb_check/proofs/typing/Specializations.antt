@@ -8,6 +8,7 @@ use Words.{holds, Node, instance_of, tree_at, ◌⊎◌, ◌+◌, false, drop, g
 use Words.{append_assoc, drop_more, and_assoc, and-true, not-false, and_first, and_second, NodeId}
 use Words.{nat_lt, sum_by, Contains, nat_tests, sum_by-cons, sum_by_more, get_or_from_slice_get}
 use Words.{item_at, node_parts, expression_size, is_small, size, ◌++◌, cond, ◌≤◌, take}
+use Words.{append-nil, drop_all}
 use Rattle.{std.proofs.lemmas.List.take_all, lb_static.specs.InstanceTable.{paths_of, row_at}}
 use Rattle.{lb_static.proofs.InstanceRows.paths_length, lb_check.specs.TypeRules.instance_size}
 use Rattle.lb_static.specs.declared.table.Instance as row
@@ -149,6 +150,11 @@ nodes_in = map (λ s. s.node)
 abbrev pub AreFirst : List NodeId → ℕ → List Specialization → Type 0
 AreFirst ids i ss = (f : NodeId → Bool) →
     find f (ids ++ nodes_in (drop i ss)) ≡ find f (nodes_in ss)
+
+pub all_first : (ids : List NodeId) (i : ℕ) (ss : List Specialization) → length ss ≤ i →
+    AreFirst ids i ss → (f : NodeId → Bool) → find f ids ≡ find f (nodes_in ss)
+all_first ids i ss le first f =
+    sym (ap (find f) (ap (λ l. ids ++ nodes_in l) (drop_all i ss le) ∙ append-nil ids)) ∙ first f
 
 -- each node that is flagged is among `ids`
 abbrev pub AreThere : List NodeId → List Bool → Type 0

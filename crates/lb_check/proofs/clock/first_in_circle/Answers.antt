@@ -1,4 +1,5 @@
-use Rattle.lb_check.proofs.{Words.arith, clocking.ClockDepths.noted_step}
+use Rattle.lb_check.proofs.Words.{arith, subst, sym, AreDepths}
+use Rattle.lb_check.proofs.clocking.ClockDepths.{noted_step}
 use Rattle.lb_check.proofs.clock.first_in_circle.Goals as goal
 
 pub note_depths-requires-clause-small : goal.note_depths-requires-clause-small
@@ -10,3 +11,8 @@ loop-variable-preserved c =
     c.loop-variable.invariant.0 c.deref_mut.ensures.value (omega arith)
     c.note_depths.ensures.known c.note_depths.ensures.noted c.note_depths.ensures.kept
     c.loop-variable.invariant.1
+
+pub note_depths-requires-clause-known : goal.note_depths-requires-clause-known
+note_depths-requires-clause-known c =
+    subst (AreDepths c.args.variables.now) (sym c.deref_mut.ensures.value)
+    c.loop-variable.invariant.0

@@ -1,6 +1,6 @@
-use Rattle.lb_check.proofs.Words.{inl, inr, arith, ◌<◌, ◌+◌, ◌-◌, length}
+use Rattle.lb_check.proofs.Words.{inl, inr, arith, ◌<◌, ◌+◌, ◌-◌, length, subst, sym, ◌∙◌}
 use Rattle.lb_check.proofs.clocking.ClockDepths.{awaits, first_known, still_known, more_depths}
-use Rattle.lb_check.proofs.clocking.ClockDepths.{waits_deeper}
+use Rattle.lb_check.proofs.clocking.ClockDepths.{waits_deeper, first_noted, less_small}
 use Rattle.lb_check.proofs.clock.note_depths.Goals as goal
 
 pub returns-in_default-clause-noted : goal.returns-in_default-clause-noted
@@ -36,3 +36,16 @@ loop-above-preserved c =
 pub returns-clause-noted : goal.returns-clause-noted
 returns-clause-noted c = elim c.loop-above.invariant.noted
     [ inl e ↦ absurd (omega arith) | inr k ↦ k ]
+
+pub returns-then-is_some-clause-noted : goal.returns-then-is_some-clause-noted
+returns-then-is_some-clause-noted c =
+    let known = c.loop-above.invariant in
+    first_noted c.loop-above.depths c.loop-above.variable c.args.first _ _
+    (subst (λ n. c.loop-above.variable < n) (sym known.known.as_many) known.within)
+    (sym c.is_some.ensures ∙ c.if-is_some.true) known.noted
+
+pub returns-in_default-clause-known : goal.returns-in_default-clause-known
+returns-in_default-clause-known c =
+    let known = c.loop-above.invariant in
+    more_depths _ c.loop-above.depths c.loop-above.variable (c.args.depth - c.loop-above.above)
+    known.known known.stands (less_small c.args.depth c.loop-above.above _ c.requires.small)

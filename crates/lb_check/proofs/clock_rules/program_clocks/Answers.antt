@@ -7,6 +7,7 @@ use Rattle.std.proofs.Math.{ListN.get_or-append, Seq.get_or-append_seam}
 use Rattle.std.proofs.lemmas.Option.{slice_get_read}
 use Rattle.lb_check.specs.{FoundParts.{AreClockedParts, IsClockedPart}, PlacedClocks.found_in}
 use Rattle.lb_check.proofs.clocking.WalkedClocks.{map_more}
+use Rattle.lb_check.proofs.lists.ListPairs.{mapped_end}
 use Rattle.lb_check.proofs.clocking.WholeClocks.{first_broken_specialization, first_part, found_is}
 use Rattle.lb_check.proofs.definitions.BrokenRules.{part_named}
 use Rattle.lb_check.proofs.clock_rules.program_clocks.Goals as goal
@@ -77,3 +78,11 @@ returns-clause-named c P j typed =
     part_named P r t j (is_clocked P) (is_part_clocked P) (is_clocked_at r) (IsIllClocked r)
     (first_broken_specialization P r t j typed) (first_part P r t j typed) found.result
     (found.ensures.first r parts) (found.ensures.part r parts)
+
+pub returns-clause-placed : goal.returns-clause-placed
+returns-clause-placed c =
+    let of = λ (n : ResolvedNode). with_terms nothing_found (node_terms c.args.reached.now n) in
+    let l = c.loop-node in
+    sym (mapped_end of c.deref-node-items.result.now l.node-index (map found_in l.clocks.items) _
+    c.loop-node-test.false l.invariant.placed)
+    ∙ ap (map of) c.deref-node-items.ensures.value

@@ -1,5 +1,6 @@
 use Rattle.lb_check.proofs.Words.{◌≡◌, ◌<◌, ◌+◌, ℕ, Bool, List, false, drop, get_or, length, ap}
 use Rattle.lb_check.proofs.Words.{sym, ◌∙◌, subst, arith, rules, ◌||◌, places, with_items_is}
+use Rattle.lb_check.proofs.Words.{drop_all}
 use Rattle.lb_check.proofs.clocking.GivenVariables.{is_waited, waited_more}
 use Rattle.lb_check.proofs.given_variables.awaited_parameters.Goals as goal
 
@@ -25,3 +26,11 @@ loop-variable-preserved c =
           ∙ waited_more all l.variable-index i _ old c.deref_mut.result.now (get_or new i false)
           c.loop-variable-test.true (c.flag_awaited.ensures.flagged i lent) same,
     )
+
+pub returns-clause-flags : goal.returns-clause-flags
+returns-clause-flags c i lt =
+    let l = c.loop-variable in
+    sym (l.invariant.1 i lt
+    ∙ ap (λ vs. is_waited i vs || get_or l.awaited.items i false)
+    (drop_all l.variable-index c.parameters-parameters.result.now c.loop-variable-test.false))
+    ∙ ap (is_waited i) c.parameters-parameters.ensures

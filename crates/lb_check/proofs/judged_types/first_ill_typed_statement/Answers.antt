@@ -1,6 +1,6 @@
 use Rattle.lb_check.proofs.Words.{length, refl, ap, sym, ◌∙◌, slice_get, slice_get_read, found_in}
 use Rattle.lb_check.proofs.Words.{first_broken, context_in, is_resolved_statement_typed, kept_in}
-use Rattle.lb_check.proofs.{Words.statement_types, lists.ListPairs.broken_more}
+use Rattle.lb_check.proofs.{Words.statement_types, lists.ListPairs.{broken_here, broken_more}}
 use Rattle.lb_check.proofs.typing.{SharedTypes.is_there, WalkedTypes.{keeps_moved, keeps_next}}
 use Rattle.lb_check.proofs.typing.WalkedTypes.{keeps_nothing}
 use Rattle.lb_check.proofs.judged_types.first_ill_typed_statement.Goals as goal
@@ -54,3 +54,12 @@ loop-j-preserved c =
           (keeps_moved (statement_types ctx st) mid (kept_in c.is_statement_typed.new.parts) moved
           more most l.invariant.kept.0 walked.1 c.in_ok-move_all.ensures);
     }
+
+pub returns-then-not-branch-clause-first : goal.returns-then-not-branch-clause-first
+returns-then-not-branch-clause-first c =
+    let l = c.loop-j in
+    broken_here (is_resolved_statement_typed (context_in c.args.env.now))
+    c.deref-statement-items.result.now c.args.env.now.node.now.body.items l.j
+    c.statement-item.result c.loop-j-test.true c.statement-item.is
+    c.deref-statement-items.ensures.value l.invariant.first
+    (sym c.in_ok-is_statement_typed.ensures.0 ∙ c.if-not-branch.true)

@@ -2,7 +2,9 @@ use Rattle.lb_check.proofs.Words.{length, refl, ap, cond, drop, not, subst, sym,
 use Rattle.lb_check.proofs.Words.{slice_get, slice_get_read, drop_more, first_broken, kept_in}
 use Rattle.lb_check.proofs.Words.{is_specialization_typed}
 use Rattle.lb_check.specs.FoundParts.{IsJudgedSpecialization}
-use Rattle.lb_check.proofs.{lists.ListPairs.{broken_from, broken_more}, typing.FoundTypes.found_more}
+use Rattle.lb_check.specs.SharedTypes.{AreJudgedParts}
+use Rattle.lb_check.proofs.lists.ListPairs.{broken_from, broken_more, none_broken}
+use Rattle.lb_check.proofs.typing.FoundTypes.{found_more, found_none, found_all}
 use Rattle.lb_check.proofs.judged_types.types_by_specialization.Goals as goal
 
 pub loop-place-preserved : goal.loop-place-preserved
@@ -50,4 +52,37 @@ returns-in-Err c =
         refl,
         ill,
       ),
+    )
+
+pub specialization_types-requires-clause-shared : goal.specialization_types-requires-clause-shared
+specialization_types-requires-clause-shared c =
+    subst (AreJudgedParts c.args.reached.now c.args.table.now) (sym c.deref.ensures.value)
+    c.in_ok-share_rest.ensures
+
+pub returns-then-parts-eq0 : goal.returns-then-parts-eq0
+returns-then-parts-eq0 c =
+    let r = c.args.reached.now in
+    let t = c.args.table.now in
+    let l = c.loop-place in
+    let all = c.deref-specialization-items.result.now in
+    let le = c.loop-place-test.false in
+    let same = c.deref-specialization-items.ensures.value in (
+      none_broken (is_specialization_typed r t) all t.specializations.items l.place le same
+          l.invariant.first,
+      found_none r t all l.place (kept_in l.parts) le same l.all.items l.invariant.found
+          c.if-parts-eq0.true,
+    )
+
+pub returns : goal.returns
+returns c =
+    let r = c.args.reached.now in
+    let t = c.args.table.now in
+    let l = c.loop-place in
+    let all = c.deref-specialization-items.result.now in
+    let le = c.loop-place-test.false in
+    let same = c.deref-specialization-items.ensures.value in (
+      none_broken (is_specialization_typed r t) all t.specializations.items l.place le same
+          l.invariant.first,
+      found_all r t all l.place (kept_in l.parts) le same l.all l.invariant.found
+          c.if-parts-eq0.false,
     )

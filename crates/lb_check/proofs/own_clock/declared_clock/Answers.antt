@@ -1,21 +1,29 @@
-use Rattle.lb_check.proofs.Words.{◌≡◌, ◌<◌, ◌≤◌, length, refl, ap, ◌∙◌, subst, arith, slice_get}
-use Rattle.lb_check.proofs.Words.{nat_tests, slice_get_read, clock_in, Some}
+use Rattle.lb_check.proofs.Words.{◌≤◌, length, ap, sym, ◌∙◌, subst, ltb-true, ◌>>=◌}
+use Rattle.lb_check.proofs.Words.{clock_in, clock_with, Variable}
+use Rattle.lb_static.proofs.Lookups.{held}
 use Rattle.lb_check.proofs.clocking.ClockSetRows.{declared_nowhere, declared_there}
 use Rattle.lb_check.proofs.own_clock.declared_clock.Goals as goal
 
 pub returns-in-Some-clause-same : goal.returns-in-Some-clause-same
 returns-in-Some-clause-same c h within =
     let r = c.args.node.now in
-    let vs = c.deref.result.now in
-    let lt : c.args.variable.0 < length c.args.node.now.variables.items =
-    grind (arith, nat_tests) in
+    let x = c.args.variable in
+    let v = c.in-Some.declared.now in
     let found = c.in-Some.ensures.lookup in
-    let at = subst (λ us. slice_get us c.args.variable.0 ≡ Some c.in-Some.declared.now)
-    c.deref.ensures.value
-    (slice_get_read vs (length vs) c.args.variable.0 c.in-Some.declared.now refl found.3.0 found.1)
-    in
     ap (clock_in r) c.clock_with.ensures
-    ∙ declared_there r h c.args.variable c.in-Some.declared.now at lt
+    ∙ declared_there r h x v
+    (held c.deref.result.now r.variables.items x.0 v c.deref.ensures.value found.3.0 found.1)
+    (ltb-true x.0 (length r.variables.items) within)
+
+pub returns-in-Some-clause-mirror : goal.returns-in-Some-clause-mirror
+returns-in-Some-clause-mirror c =
+    let r = c.args.node.now in
+    let x = c.args.variable in
+    let found = c.in-Some.ensures.lookup in
+    c.clock_with.ensures
+    ∙ sym (ap (λ o. clock_with (o >>= λ (v : Variable). v.clock))
+    (held c.deref.result.now r.variables.items x.0 c.in-Some.declared.now c.deref.ensures.value
+    found.3.0 found.1))
 
 pub returns-in-None-clause-mirror : goal.returns-in-None-clause-mirror
 returns-in-None-clause-mirror c =

@@ -1,6 +1,6 @@
 use Rattle.lb_check.proofs.Words.{◌+◌, rules, sym, ap, ◌∙◌, subst, with_items_is, places}
 use Rattle.lb_check.proofs.typing.Specializations.{AreFirst, AreThere, added_first, added_there}
-use Rattle.lb_check.proofs.typing.Specializations.{known_first, known_there}
+use Rattle.lb_check.proofs.typing.Specializations.{all_first, known_first, known_there}
 use Rattle.lb_check.proofs.used_nodes.used_nodes.Goals.{then-flag+in_ok-push, else-flag}
 use Rattle.lb_check.proofs.used_nodes.used_nodes.Goals as goal
 
@@ -39,3 +39,8 @@ loop-specialization-preserved c =
           )
           )
     ]
+
+pub returns : goal.returns
+returns c =
+    all_first c.loop-specialization.ids.items c.loop-specialization.specialization-index
+    c.args.specializations.now c.loop-specialization-test.false c.loop-specialization.invariant.0

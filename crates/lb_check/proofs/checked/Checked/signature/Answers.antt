@@ -1,0 +1,7 @@
+-- A checked program keeps the rules.
+use Rattle.lb_check.proofs.Words.{subst}
+use Rattle.lb_check.specs.LawfulPrograms.{IsChecked}
+use Rattle.lb_check.proofs.checked.Checked.signature.Goals as goal
+
+pub returns-clause-lawful : goal.returns-clause-lawful
+returns-clause-lawful c = subst IsChecked c.self.view_is c.self.invariant
