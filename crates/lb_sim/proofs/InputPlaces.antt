@@ -1,7 +1,7 @@
 -- The places of inputs: one after the other, each in the next plane or the next word.
-use Rattle.std.proofs.Common.{◌≡◌, ℕ, ◌+◌, ◌<◌, List, [], ◌∷◌, ◌++◌}
+use Rattle.std.proofs.Common.{◌≡◌, ℕ, ◌+◌, ◌<◌, ◌≤◌, List, [], ◌∷◌, ◌++◌}
 use Rattle.std.proofs.Common.{get_or, length, take, sym, ap, ap₂, ◌∙◌, subst, arith}
-use Rattle.std.proofs.lemmas.List.{take_more, length-append}
+use Rattle.std.proofs.lemmas.List.{take_all, take_more, length-append}
 use Rattle.lb_syntax.specs.declared.tree.Kind.{Kind}
 use Rattle.lb_syntax.specs.declared.tree.Kind.TheVariants.{Int as Int_kind, Bool as Bool_kind}
 use Rattle.lb_traces.proofs.KindColumns.{truths_push, numbers_push}
@@ -15,6 +15,14 @@ pub record AreInputs (kinds : List Kind) (values : List Value) (planes words : �
   pub values_are : values ≡ places_of 2 1 kinds
   pub planes_are : planes ≡ 2 + length (truth_columns 0 kinds)
   pub words_are : words ≡ 1 + length (number_columns 0 kinds)
+
+-- the inputs of the first kinds are those of all kinds where these are no more
+pub inputs_all :
+    (kinds : List Kind) (j : ℕ) (values : List Value) (planes words : ℕ) →
+    AreInputs (take j kinds) values planes words → length kinds ≤ j →
+    AreInputs kinds values planes words
+inputs_all kinds j values planes words h le =
+    subst (λ ks. AreInputs ks values planes words) (take_all j kinds le) h
 
 module _ (kinds : List Kind) (j : ℕ) (values : List Value) (planes words : ℕ)
     (h : AreInputs (take j kinds) values planes words) (lt : j < length kinds) where

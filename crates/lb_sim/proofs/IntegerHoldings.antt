@@ -1,12 +1,16 @@
 -- The scalars that holdings of integers hold.
-use Rattle.std.proofs.Common.{◌≡◌, Bool, true, false, ℤ, refl, sym, ap, ap₂, ◌∙◌, ◌||◌}
+use Rattle.std.proofs.Common.{◌≡◌, ◌≢◌, Bool, true, false, Some, ℤ, refl, sym, ap, ap₂, ◌∙◌, ◌||◌}
 use Rattle.lb_syntax.specs.declared.tree.BinaryOperator.{BinaryOperator}
+use Rattle.lb_syntax.specs.declared.tree.BinaryOperator.TheVariants.{Plus, Minus, Times, Divide}
+use Rattle.lb_syntax.specs.declared.tree.BinaryOperator.TheVariants.{Modulo}
 use Rattle.lb_syntax.specs.declared.tree.Kind.{Kind}
 use Rattle.lb_syntax.specs.declared.tree.Kind.TheVariants.{Int as Int_kind}
 use Rattle.lb_syntax.specs.declared.tree.UnaryOperator.TheVariants.{Negate}
 use Rattle.lb_check.specs.Scalars.{Integer, or_fault, one_scalar, two_integers, two_scalars}
+use Rattle.lb_flat.specs.Fitting.{integers_kind}
 use Rattle.lb_lanes.specs.Operators.{result_of, difference_of}
 use Rattle.lb_lanes.specs.declared.int_operator.IntOperator.{IntOperator}
+use Rattle.lb_lanes.specs.declared.int_operator.IntOperator.TheVariants.{Add, Sub, Mul, Div, Rem}
 use Rattle.lb_machine.specs.Listed.{listed}
 use Rattle.lb_machine.specs.Meaning.{Lane, HasRun}
 use Rattle.lb_machine.specs.declared.code.Code.{Code}
@@ -33,6 +37,44 @@ arithmetic_for code op a b nil left right h is = record {
       is.means s r
       ∙ ap (shown (s.bits left.0 || s.bits right.0) (s.bits nil.0))
       (operator_is op (s.ints a.0) (s.ints b.0));
+}
+
+-- an operator that gives no integer is none of the lanes
+pub no_operator :
+    (op : BinaryOperator) → op ≢ Plus → op ≢ Minus → op ≢ Times → op ≢ Divide → op ≢ Modulo →
+    (o : IntOperator) → op ≢ operator_of o
+no_operator op a b c d e Add = a
+no_operator op a b c d e Sub = b
+no_operator op a b c d e Mul = c
+no_operator op a b c d e Div = d
+no_operator op a b c d e Rem = e
+
+gives_integer :
+    (o : IntOperator) (kind : Kind) → integers_kind (operator_of o) ≡ Some kind → Int_kind ≡ kind
+gives_integer Add kind e = cc
+gives_integer Sub kind e = cc
+gives_integer Mul kind e = cc
+gives_integer Div kind e = cc
+gives_integer Rem kind e = cc
+
+-- an operator of the language holds what its operator of the lanes holds
+pub integer_for :
+    (code : Code) (op : BinaryOperator) (o : IntOperator) (kind : Kind) (a b : WordId)
+    (nil left right : PlaneId) (h : Holding) → op ≡ operator_of o →
+    integers_kind op ≡ Some kind →
+    IsFor code Int_kind (λ s.
+    shown (s.bits left.0 || s.bits right.0) (s.bits nil.0)
+    (two_integers (operator_of o) (s.ints a.0) (s.ints b.0))) h →
+    IsFor code kind (λ s.
+    shown (s.bits left.0 || s.bits right.0) (s.bits nil.0)
+    (two_integers op (s.ints a.0) (s.ints b.0))) h
+integer_for code op o kind a b nil left right h is fits made = record {
+  kind_is = made.kind_is ∙ gives_integer o kind (sym (ap integers_kind is) ∙ fits);
+  means = λ s r.
+      made.means s r
+      ∙ ap (λ p.
+      shown (s.bits left.0 || s.bits right.0) (s.bits nil.0)
+      (two_integers p (s.ints a.0) (s.ints b.0))) (sym is);
 }
 
 -- 0 minus an integer is its negation

@@ -13,6 +13,7 @@ use Rattle.lb_flat.specs.Run.{Ready}
 use Rattle.lb_flat.proofs.ordering.Ordering.{ready_of}
 use Rattle.lb_machine.specs.Meaning.{Lane}
 use Rattle.lb_machine.specs.declared.instruction.PlaneId.{PlaneId}
+use Rattle.lb_machine.specs.declared.instruction.WordId.{WordId}
 use Rattle.lb_sim.specs.InputRows.{truth_columns, number_columns}
 use Rattle.lb_sim.specs.Codes.{Suits}
 use Rattle.lb_sim.specs.Compiled.{IsHomeAt}
@@ -71,6 +72,97 @@ module _ (p : LaneProgram) where
 
     pub start_words_room : length p.start_words.items ≡ c.code.first_word
     start_words_room = ∥∥₁_elim law (Prim.hlevel props) (λ h. h.laid_out.start_words_room)
+
+    -- there is a place for each word of the code
+    pub words_room : c.code.words ≤ p.words
+    words_room = ∥∥₁_elim law (Prim.hlevel props) (λ h. h.words_room)
+
+    -- the code has its planes and words in a run of the program
+    pub planes_fit : (n m : ℕ) → n ≡ m → m ≡ p.planes → c.code.planes ≤ n
+    planes_fit n m same is = omega (arith, same, is, planes_room)
+
+    pub words_fit : (n m : ℕ) → n ≡ m → m ≡ p.words → c.code.words ≤ n
+    words_fit n m same is = omega (arith, same, is, words_room)
+
+    -- there is a plane for each Boolean, and a word for each integer, of the inputs
+    pub truths_fit :
+        (n m : ℕ) → n ≡ length (truth_columns 0 f.inputs) → m ≡ p.planes → 2 + n ≤ m
+    truths_fit n m many is =
+        omega (arith, many, is, inputs_planes, memory_planes, c.code.more_planes, planes_room)
+
+    pub numbers_fit :
+        (n m : ℕ) → n ≡ length (number_columns 0 f.inputs) → m ≡ p.words → 1 + n ≤ m
+    numbers_fit n m many is =
+        omega (
+          arith,
+          many,
+          is,
+          inputs_words,
+          constants_words,
+          memory_words,
+          c.code.more_words,
+          words_room,
+        )
+
+    -- the planes that are watched are planes of a run of the program
+    pub faults_fit : (n m : ℕ) → n ≡ m → m ≡ p.planes → c.watched.faults.0 < n
+    faults_fit n m same is =
+        let there : c.watched.faults.0 < c.code.planes =
+        ∥∥₁_elim law (Prim.hlevel props) (λ h. h.compiled.watches.faults.within) in
+        omega (arith, there, same, is, planes_room)
+
+    pub undefined_fit : (n m : ℕ) → n ≡ m → m ≡ p.planes → c.watched.undefined.0 < n
+    undefined_fit n m same is =
+        let there : c.watched.undefined.0 < c.code.planes =
+        ∥∥₁_elim law (Prim.hlevel props) (λ h. h.compiled.watches.undefined.within) in
+        omega (arith, there, same, is, planes_room)
+
+    pub failed_fit : (n m : ℕ) → n ≡ m → m ≡ p.planes → c.watched.failed.0 < n
+    failed_fit n m same is =
+        let there : c.watched.failed.0 < c.code.planes =
+        ∥∥₁_elim law (Prim.hlevel props) (λ h. h.compiled.watches.failed.within) in
+        omega (arith, there, same, is, planes_room)
+
+    pub violated_fit : (n m : ℕ) → n ≡ m → m ≡ p.planes → c.watched.violated.0 < n
+    violated_fit n m same is =
+        let there : c.watched.violated.0 < c.code.planes =
+        ∥∥₁_elim law (Prim.hlevel props) (λ h. h.compiled.watches.violated.within) in
+        omega (arith, there, same, is, planes_room)
+
+    -- ## The sources of memories, which lie behind the memories
+
+    pub planes_carried :
+        (n : ℕ) (xs : List PlaneId) → n ≡ p.planes → xs ≡ c.plane_sources.items →
+        All (λ (q : PlaneId). p.memory_plane + length xs ≤ q.0 × q.0 < n) xs
+    planes_carried n xs is same =
+        subst (λ ys. All (λ (q : PlaneId). p.memory_plane + length ys ≤ q.0 × q.0 < n) ys)
+        (sym same)
+        (λ i d lt.
+        let low : c.code.first_plane ≤ (get_or c.plane_sources.items i d).0 =
+        ∥∥₁_elim law (Prim.hlevel props) (λ h. (h.laid_out.planes_behind i d lt).0) in
+        let high : (get_or c.plane_sources.items i d).0 < c.code.planes =
+        ∥∥₁_elim law (Prim.hlevel props) (λ h. (h.laid_out.planes_behind i d lt).1) in
+        (omega (arith, low, memory_planes), omega (arith, high, planes_room, is)))
+
+    pub words_carried :
+        (n : ℕ) (xs : List WordId) → n ≡ p.words → xs ≡ c.word_sources.items →
+        All (λ (w : WordId). p.memory_word + length xs ≤ w.0 × w.0 < n) xs
+    words_carried n xs is same =
+        subst (λ ys. All (λ (w : WordId). p.memory_word + length ys ≤ w.0 × w.0 < n) ys)
+        (sym same)
+        (λ i d lt.
+        let low : c.code.first_word ≤ (get_or c.word_sources.items i d).0 =
+        ∥∥₁_elim law (Prim.hlevel props) (λ h. (h.laid_out.words_behind i d lt).0) in
+        let high : (get_or c.word_sources.items i d).0 < c.code.words =
+        ∥∥₁_elim law (Prim.hlevel props) (λ h. (h.laid_out.words_behind i d lt).1) in
+        (omega (arith, low, memory_words), omega (arith, high, words_room, is)))
+
+    pub word_memories_fit :
+        (n : ℕ) (xs : List WordId) → n ≡ p.words → xs ≡ c.word_sources.items →
+        p.memory_word + length xs ≤ n
+    word_memories_fit n xs is same =
+        subst (λ ys. p.memory_word + length ys ≤ n) (sym same)
+        (omega (arith, memory_words, c.code.more_words, words_room, is))
 
     -- ## The lanes that suit a code
 

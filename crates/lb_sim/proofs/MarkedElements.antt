@@ -6,7 +6,7 @@ use Rattle.std.specs.List.{list_any}
 use Rattle.std.proofs.Math.ListN.{drop_of_length-le}
 use Rattle.std.proofs.lemmas.Bool.{cases_eq}
 use Rattle.std.proofs.lemmas.List.{get_or-set_other, get_or-set_same, length-replicate}
-use Rattle.std.proofs.lemmas.List.{map-append, take_more}
+use Rattle.std.proofs.lemmas.List.{drop_more, map-append, take_more}
 use Rattle.lb_syntax.specs.Lists.{In}
 use Rattle.lb_syntax.proofs.TruthValues.{both_ways, contrary}
 use Rattle.lb_flat.specs.Judging.{FlatProgram, named_elements}
@@ -103,6 +103,15 @@ marked_from i (false ∷ marks) = marked_from (suc i) marks
 pub marked_end : (marks : List Bool) (i : ℕ) → length marks ≤ i →
     marked_from i (drop i marks) ≡ []
 marked_end marks i le = ap (marked_from i) (drop_of_length-le marks le)
+
+-- the next element is marked, and the others come behind it
+pub marked_cut : (marks : List Bool) (i : ℕ) (d : Bool) → i < length marks →
+    get_or marks i d ≡ true →
+    marked_from i (drop i marks) ≡ i ∷ marked_from (i + 1) (drop (i + 1) marks)
+marked_cut marks i d lt on =
+    let e : suc i ≡ i + 1 = omega arith in
+    ap (marked_from i) (drop_more marks i d lt ∙ ap (λ b. b ∷ drop (i + 1) marks) on)
+    ∙ ap (λ n. i ∷ marked_from n (drop (i + 1) marks)) e
 
 -- an element that is marked is in the list of marked elements
 marked_in : (i : ℕ) (marks : List Bool) (k : ℕ) → get_or marks k false ≡ true →

@@ -1,7 +1,8 @@
 -- Words that are 0 in each lane, and the row of them that a lane shows.
-use Rattle.std.proofs.Common.{◌≡◌, ℕ, ◌+◌, ◌<◌, List, [], ℤ, get_or, length, map, replicate}
-use Rattle.std.proofs.Common.{ap, ◌∙◌, arith}
-use Rattle.std.proofs.lemmas.List.{get_or-replicate}
+use Rattle.std.proofs.Common.{◌≡◌, ℕ, ◌+◌, ◌<◌, List, [], ◌∷◌, ◌++◌, ℤ, pos, get_or, length, map}
+use Rattle.std.proofs.Common.{replicate, ap, sym, subst, ◌∙◌, inl, inr, arith}
+use Rattle.std.proofs.lemmas.Bool.{cases_lt}
+use Rattle.std.proofs.lemmas.List.{get_or-replicate, get_or_append_left, get_or_push, length_push}
 use Rattle.lb_syntax.specs.declared.tree.Kind.{Kind}
 use Rattle.lb_lanes.specs.Kernels.{lane_of}
 use Rattle.lb_lanes.specs.Planes.{on}
@@ -9,6 +10,21 @@ use Rattle.lb_lanes.proofs.OnPlanes.{on-zero}
 use Rattle.lb_machine.specs.Meaning.{lane_at}
 use Rattle.lb_sim.specs.InputRows.{AreZero, lane_row, truth_columns, number_columns, zero_of}
 use Rattle.lb_sim.proofs.InputColumns.{row_zero}
+
+-- one word more is 0 in each lane
+pub zero_more :
+    (xs ys : List (List ℤ)) (x : List ℤ) → ys ≡ xs ++ x ∷ [] → AreZero xs →
+    ((i : ℕ) → i < 64 → lane_of x i ≡ pos 0) → AreZero ys
+zero_more xs ys x same zero here =
+    subst AreZero (sym same)
+    (λ w i lw li.
+    elim (cases_lt w (length xs)) [
+      | inl below ↦
+          ap (λ l. lane_of l i) (get_or_append_left xs (x ∷ []) [] w below) ∙ zero w i below li
+      | inr above ↦
+          let last : length xs ≡ w = omega (arith, above, lw, length_push xs x) in
+          ap (λ l. lane_of l i) (get_or_push xs x [] w last) ∙ here i li
+    ])
 
 -- the row of a lane is 0 and false
 pub row_of_zero :

@@ -9,7 +9,6 @@ use std::alloc::{AllocError, Global};
 
 /// The columns of a signature: a plane for each Boolean and a word for each integer, in the order
 /// of the signature.
-#[derive(Drop)]
 pub struct Columns {
     /// The kind of each column.
     pub kinds: Vec<Kind>,
@@ -21,6 +20,18 @@ pub struct Columns {
     pub(crate) ghost in_order: { every_number.items ≡ range_with_len 0 numbers },
     pub ghost all_truths: { truths ≡ length (truth_columns 0 kinds.items) },
     pub ghost all_numbers: { numbers ≡ length (number_columns 0 kinds.items) },
+}
+
+// Not derived, so that a caller drops it in one step.
+impl Drop for Columns {
+    fn drop(self) {
+        let Columns {
+            kinds: _,
+            truths: _,
+            numbers: _,
+            every_number: _,
+        } = self;
+    }
 }
 
 // Whether a column holds Booleans.

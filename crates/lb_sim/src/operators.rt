@@ -1,12 +1,13 @@
 //! Operators of the language on holdings.
 
-ghost use Rattle.std.specs.Prelude.{◌≡◌, ◌<◌, ◌||◌, Some, IfOk, OnOk};
+ghost use Rattle.std.specs.Prelude.{◌≡◌, ◌≢◌, ◌<◌, ◌||◌, Some, None, IfOk, IfSome, OnOk};
 ghost use Rattle.lb_syntax.specs.declared.tree.Kind.{Kind};
 ghost use Rattle.lb_check.specs.Scalars.{one_scalar, two_integers, two_scalars};
 ghost use Rattle.lb_flat.specs.Fitting.{binary_kind, integers_kind, unary_kind};
+ghost use Rattle.lb_lanes.specs.declared.int_operator.IntOperator.{IntOperator};
 ghost use Rattle.lb_machine.specs.Correct.{AddsAtMost, HasRoom, IsGrown};
 ghost use Rattle.lb_sim.specs.Holdings.{IsFor, IsIn, IsTruth};
-ghost use Rattle.lb_sim.specs.Showing.{kind_of, scalar_at, shown};
+ghost use Rattle.lb_sim.specs.Showing.{kind_of, operator_of, scalar_at, shown};
 
 use crate::literal::{Literal, truth_of};
 use crate::numbers::{arithmetic, negated};
@@ -27,6 +28,21 @@ fn truth(x: Literal, nil: PlaneId, bad: PlaneId) -> Holding
         value: x.value(),
         nil,
         bad,
+    }
+}
+
+// The operator of the lanes for an operator that gives an integer.
+fn int_operator(op: BinaryOperator) -> Option<IntOperator>
+    ensures some { IfSome result (λ o. op ≡ operator_of o) }
+    ensures none { result ≡ None → (o : IntOperator) → op ≢ operator_of o }
+{
+    match op {
+        BinaryOperator::Plus => Some(IntOperator::Add),
+        BinaryOperator::Minus => Some(IntOperator::Sub),
+        BinaryOperator::Times => Some(IntOperator::Mul),
+        BinaryOperator::Divide => Some(IntOperator::Div),
+        BinaryOperator::Modulo => Some(IntOperator::Rem),
+        _ => None,
     }
 }
 
@@ -55,17 +71,12 @@ fn integers(
         shown (s.bits left.0 || s.bits right.0) (s.bits nil.0)
         (two_integers op (s.ints a.0) (s.ints b.0))) h) }
 {
-    match op {
-        BinaryOperator::Plus => { Ok(arithmetic(code, IntOperator::Add, a, b, nil, left, right)?) }
-        BinaryOperator::Minus => { Ok(arithmetic(code, IntOperator::Sub, a, b, nil, left, right)?) }
-        BinaryOperator::Times => { Ok(arithmetic(code, IntOperator::Mul, a, b, nil, left, right)?) }
-        BinaryOperator::Divide => {
-            Ok(arithmetic(code, IntOperator::Div, a, b, nil, left, right)?)
+    match int_operator(op) {
+        Some(operator) => {
+            let number = arithmetic(code, operator, a, b, nil, left, right)?;
+            Ok(number)
         }
-        BinaryOperator::Modulo => {
-            Ok(arithmetic(code, IntOperator::Rem, a, b, nil, left, right)?)
-        }
-        _ => {
+        None => {
             let bad = code.combine(PlaneOperator::Or, left, right)?;
             let value = compared(code, op, a, b)?;
             Ok(truth(value, nil, bad))

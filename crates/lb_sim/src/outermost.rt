@@ -67,9 +67,10 @@ fn outermost(
     let mut found = Vec::new(alloc);
     for i in 0..count {
         let place = places[i as usize];
-        if place.present.0 == TRUE_PLANE.0 && !is_marked(inner.as_slice(), place.holding.bad) {
-            found.push(ElementId(i))?;
+        if place.present.0 != TRUE_PLANE.0 || is_marked(inner.as_slice(), place.holding.bad) {
+            continue;
         }
+        found.push(ElementId(i))?;
     }
     Ok(found)
 }

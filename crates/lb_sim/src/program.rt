@@ -16,7 +16,6 @@ use lb_machine::{Code, PlaneId, WordId};
 /// what memories take over after it.
 ///
 /// It stands for the program in each lane in which some planes of memories are false and some true.
-#[derive(Drop)]
 pub struct LaneCode {
     pub code: Code,
     /// The place of each element.
@@ -28,6 +27,21 @@ pub struct LaneCode {
     /// The planes of memories that the code takes to be false, and those that it takes to be true.
     pub clear: Vec<PlaneId>,
     pub set: Vec<PlaneId>,
+}
+
+// Not derived, so that a caller drops it in one step.
+impl Drop for LaneCode {
+    fn drop(self) {
+        let LaneCode {
+            code: _,
+            places: _,
+            watched: _,
+            plane_sources: _,
+            word_sources: _,
+            clear: _,
+            set: _,
+        } = self;
+    }
 }
 
 /// A flat program as code over planes and words, for up to 64 traces at once.

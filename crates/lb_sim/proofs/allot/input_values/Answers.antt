@@ -1,9 +1,9 @@
-use Rattle.std.proofs.Common.{◌<◌, length, ap, ◌∙◌, arith, rules}
+use Rattle.std.proofs.Common.{◌<◌, ◌≤◌, length, ap, ◌∙◌, arith, rules}
 use Rattle.std.proofs.lemmas.List.{get_or_default}
 use Rattle.lb_syntax.specs.declared.tree.Kind.TheVariants.{Int as Int_kind}
 use Rattle.lb_sim.specs.declared.preset.Preset.{Preset}
 use Rattle.lb_sim.proofs.FewPlaces.{first_numbers_few, first_truths_few}
-use Rattle.lb_sim.proofs.InputPlaces.{inputs_same, inputs_truth, inputs_number}
+use Rattle.lb_sim.proofs.InputPlaces.{inputs_all, inputs_same, inputs_truth, inputs_number}
 use Rattle.lb_sim.proofs.allot.input_values.Goals.{in-Bool+in_ok-plane-in-Bool+in_ok-push-in-Bool}
 use Rattle.lb_sim.proofs.allot.input_values.Goals.{in-Int+in_ok-word-in-Int+in_ok-push-in-Int}
 use Rattle.lb_sim.proofs.allot.input_values.Goals as goal
@@ -45,3 +45,21 @@ loop-j-preserved c =
           (length l.preset.words.items) l.invariant lt w.in_ok-word-in-Int.word.0 _
           (get_or_default kinds l.j Int_kind _ lt ∙ w.in-Int.is) made.place made.words)
     ]
+
+pub returns-clause-values : goal.returns-clause-values
+returns-clause-values c =
+    let le : length c.args.kinds.now ≤ c.loop-j.j = omega (arith, c.loop-j-test.false) in
+    let all = inputs_all c.args.kinds.now c.loop-j.j _ _ _ c.loop-j.invariant le in
+    all.values_are
+
+pub returns-clause-planes : goal.returns-clause-planes
+returns-clause-planes c =
+    let le : length c.args.kinds.now ≤ c.loop-j.j = omega (arith, c.loop-j-test.false) in
+    let all = inputs_all c.args.kinds.now c.loop-j.j _ _ _ c.loop-j.invariant le in
+    all.planes_are
+
+pub returns-clause-words : goal.returns-clause-words
+returns-clause-words c =
+    let le : length c.args.kinds.now ≤ c.loop-j.j = omega (arith, c.loop-j-test.false) in
+    let all = inputs_all c.args.kinds.now c.loop-j.j _ _ _ c.loop-j.invariant le in
+    all.words_are

@@ -219,3 +219,11 @@ returns-clause-rest c same =
       c.loop-t-test.false,
       c.requires.running.later,
     ))
+
+pub returns-then-live-eq0-clause-within : goal.returns-then-live-eq0-clause-within
+returns-then-live-eq0-clause-within c bound le ends =
+    omega (arith, c.loop-t.invariant.done.steps_are, c.loop-t.invariant.within bound le ends)
+
+pub returns-clause-within : goal.returns-clause-within
+returns-clause-within c bound le ends =
+    omega (arith, c.loop-t.invariant.done.steps_are, c.loop-t.invariant.within bound le ends)

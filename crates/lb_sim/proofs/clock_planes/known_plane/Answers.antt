@@ -4,6 +4,7 @@ use Rattle.lb_flat.specs.Within.{AreClocks}
 use Rattle.lb_flat.specs.declared.equation.Clock.{Clock}
 use Rattle.lb_sim.proofs.ClockPlanes.{descending_first, descending_next, highest_unknown}
 use Rattle.lb_sim.proofs.ClockPlanes.{highest_within}
+use Rattle.lb_sim.proofs.Growth.{place_grown}
 use Rattle.lb_sim.proofs.clock_planes.known_plane.Goals as goal
 
 pub loop-id-init : goal.loop-id-init
@@ -30,6 +31,18 @@ bounds-places-tick c =
     let here : c.index-tick.result.now.element.0 < c.args.program.now.size =
     subst (λ (r : Clock). r.element.0 < c.args.program.now.size) (sym c.index-tick.ensures) there in
     omega (arith, here, c.requires.elements)
+
+pub sign_plane-requires-clause-place : goal.sign_plane-requires-clause-place
+sign_plane-requires-clause-place c =
+    let id = c.in-Some.id in
+    let t = c.index-tick.result.now in
+    let lt = highest_within _ _ _ _ _ _ _ _ _ c.loop-id.invariant id c.pop.new.self.items
+    c.in-Some.ensures.items in
+    let there = (c.requires.in_range.clocks id.0 t lt).element in
+    let here : c.index-tick.result.now.element.0 < c.args.program.now.size =
+    subst (λ (r : Clock). r.element.0 < c.args.program.now.size) (sym c.index-tick.ensures) there in
+    place_grown _ _ _ c.loop-id.invariant.grown
+    (c.requires.places _ _ (omega (arith, here, c.requires.elements)))
 
 pub sign_plane-requires-clause-room : goal.sign_plane-requires-clause-room
 sign_plane-requires-clause-room c =

@@ -1,8 +1,37 @@
 use Rattle.std.proofs.Common.{◌∙◌, length, ap}
 use Rattle.lb_lanes.specs.Planes.{on}
 use Rattle.lb_sim.specs.InputRows.{truth_columns, number_columns}
+use Rattle.lb_sim.proofs.LanePrograms.{planes_fit, words_fit, truths_fit, numbers_fit}
 use Rattle.lb_sim.proofs.LaneParts.{computed}
 use Rattle.lb_sim.proofs.instant.compute.Goals as goal
+
+pub put_instant-requires-clause-planes_room : goal.put_instant-requires-clause-planes_room
+put_instant-requires-clause-planes_room c =
+    let x = c.args.inputs.now in
+    truths_fit c.args.program.now c.args.code.now c.requires.law _ _
+    (x.planes_room
+    ∙ x.columns.all_truths
+    ∙ ap (λ ks. length (truth_columns 0 ks)) c.requires.signature)
+    c.requires.planes
+
+pub put_instant-requires-clause-words_room : goal.put_instant-requires-clause-words_room
+put_instant-requires-clause-words_room c =
+    let x = c.args.inputs.now in
+    numbers_fit c.args.program.now c.args.code.now c.requires.law _ _
+    (x.words_room
+    ∙ x.columns.all_numbers
+    ∙ ap (λ ks. length (number_columns 0 ks)) c.requires.signature)
+    c.requires.words
+
+pub run-requires-clause-planes : goal.run-requires-clause-planes
+run-requires-clause-planes c =
+    planes_fit c.args.program.now c.args.code.now c.requires.law _ _ c.put_instant.ensures.planes
+    c.requires.planes
+
+pub run-requires-clause-words : goal.run-requires-clause-words
+run-requires-clause-words c =
+    words_fit c.args.program.now c.args.code.now c.requires.law _ _ c.put_instant.ensures.words
+    c.requires.words
 
 pub returns-clause-computed : goal.returns-clause-computed
 returns-clause-computed c i h =

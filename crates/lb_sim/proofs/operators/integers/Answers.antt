@@ -1,14 +1,29 @@
-use Rattle.std.proofs.Common.{ap, arith}
+use Rattle.std.proofs.Common.{refl, ap, arith}
+use Rattle.lb_lanes.specs.declared.int_operator.IntOperator.TheVariants.{Add, Sub, Mul, Div, Rem}
 use Rattle.lb_machine.specs.declared.instruction.PlaneId.{PlaneId}
 use Rattle.lb_sim.proofs.Growth.{grown_then}
+use Rattle.lb_sim.proofs.IntegerHoldings.{integer_for}
 use Rattle.lb_sim.proofs.TruthHoldings.{compared_for}
 use Rattle.lb_sim.proofs.operators.integers.Goals as goal
 
-pub returns-in_ok-value-in_default : goal.returns-in_ok-value-in_default
-returns-in_ok-value-in_default c =
-    let bad = c.in_ok-bad-in_default in
-    let made = c.in_ok-value-in_default in
-    let n = c.in_default in
+pub returns-in_ok-number-in-Some : goal.returns-in_ok-number-in-Some
+returns-in_ok-number-in-Some c =
+    let made = c.in_ok-number-in-Some in
+    record {
+      grown = made.ensures.grown;
+      few = omega (arith, made.ensures.few);
+      within = made.ensures.within;
+      holding = λ kind fits.
+          integer_for c.arithmetic.new.code c.args.op c.in-Some.operator kind c.args.a c.args.b
+          c.args.nil c.args.left c.args.right made.number c.in-Some.ensures.some fits
+          made.ensures.holding;
+    }
+
+pub returns-in_ok-value-in-None : goal.returns-in_ok-value-in-None
+returns-in_ok-value-in-None c =
+    let bad = c.in_ok-bad-in-None in
+    let made = c.in_ok-value-in-None in
+    let none = c.in-None.ensures.none refl in
     record {
       grown = grown_then _ _ _ bad.ensures.grown made.ensures.grown;
       few = omega (arith, bad.ensures.few, made.ensures.few);
@@ -32,8 +47,8 @@ returns-in_ok-value-in_default c =
       };
       holding = λ kind fits.
           compared_for c.compared.new.code c.args.op kind c.args.a c.args.b c.args.nil c.args.left
-          c.args.right bad.bad made.value c.truth.result n.not-Plus n.not-Minus n.not-Times
-          n.not-Divide n.not-Modulo fits c.truth.ensures.value c.truth.ensures.nil
+          c.args.right bad.bad made.value c.truth.result (none Add) (none Sub) (none Mul)
+          (none Div) (none Rem) fits c.truth.ensures.value c.truth.ensures.nil
           c.truth.ensures.bad (λ s r. bad.ensures.plane.means s (made.ensures.grown.runs s r))
           made.ensures.means;
     }

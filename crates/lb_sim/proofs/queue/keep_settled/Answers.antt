@@ -7,6 +7,20 @@ use Rattle.lb_sim.specs.Correct.{HasVerdict}
 use Rattle.lb_sim.proofs.Queueing.{kept_more}
 use Rattle.lb_sim.proofs.queue.keep_settled.Goals as goal
 
+pub keep-requires : goal.keep-requires
+keep-requires g c =
+    let queue = c.args.queue.now in
+    let f = program_of c.args.run.now.program.now.program.now in
+    let lane = c.loop-lane.lane in
+    let place = get_or c.args.places.now lane 0 in
+    let right : IsVerdictOf f queue.set.now (get_or queue.members.now place 0) c.verdict.result =
+    subst (IsVerdictOf f queue.set.now (get_or queue.members.now place 0)) (sym c.verdict.ensures)
+    (c.requires.right lane c.loop-lane-test.true
+    (c.loop-lane.invariant.there (omega (arith, c.loop-lane-test.true, queue.few)))) in
+    g.met.V.Verdicts.takes_still c.args.verdicts.now c.loop-lane.verdicts place c.verdict.result
+    c.loop-lane.invariant.becomes
+    (c.requires.takes place c.verdict.result (c.requires.there lane c.loop-lane-test.true) right)
+
 pub loop-lane-preserved : goal.loop-lane-preserved
 loop-lane-preserved g c =
     let queue = c.args.queue.now in
