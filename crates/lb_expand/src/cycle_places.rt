@@ -3,7 +3,7 @@
 //! No place is kept while a program is put in order: the places are read from the trees once an
 //! order is refused.
 
-ghost use Rattle.std.specs.Prelude.{◌≡◌, length, IfOk};
+ghost use Rattle.std.specs.Prelude.{◌≡◌, ◌+◌, length, IfOk, OnOk};
 ghost use Rattle.lb_expand.specs.Correct.{IsPlaced};
 
 use crate::clocks::node_at;
@@ -206,6 +206,23 @@ impl<'a, 's> Places<'a, 's> {
         Ok(number)
     }
 
+    /// Adds the place of an element, and the way to its row if it is not known yet.
+    fn push_place(
+        &self,
+        alloc: Global,
+        element: ElementId,
+        numbers: &mut [Option<usize>],
+        instances: &mut Vec<CallPath>,
+        places: &mut Vec<CyclePlace>,
+    ) -> Result<(), AllocError>
+        ensures { OnOk result (length places.new.items ≡ length places.old.items + 1) }
+    {
+        let at = self.layout.place_of(element);
+        let instance = self.instance(alloc, at.row, numbers, instances)?;
+        places.push(self.place(alloc, at, instance)?)?;
+        Ok(())
+    }
+
     /// The cycle of some elements, with the place of each.
     fn cycle(&self, alloc: Global, elements: Vec<ElementId>) -> Result<Cycle, AllocError>
         ensures { IfOk result (λ cycle. (cycle.elements.items ≡ elements.items)
@@ -215,9 +232,7 @@ impl<'a, 's> Places<'a, 's> {
         let mut instances = Vec::new(alloc);
         let mut places = Vec::new(alloc);
         for element in &elements {
-            let at = self.layout.place_of(*element);
-            let instance = self.instance(alloc, at.row, &mut numbers, &mut instances)?;
-            places.push(self.place(alloc, at, instance)?)?;
+            self.push_place(alloc, *element, &mut numbers, &mut instances, &mut places)?;
         }
         Ok(Cycle {
             elements,

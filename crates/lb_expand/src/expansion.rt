@@ -16,7 +16,6 @@ mod clock_uses;
 mod form_emission;
 pub(crate) mod frame;
 mod operators;
-mod program_emission;
 mod row_emission;
 mod start;
 mod start_emission;
@@ -51,12 +50,11 @@ fn flat_program(
 {
     let elab = checked.elab();
     let table = elab.table();
-    let children = Children::new(alloc, table)?;
-    let clocks = Clocks::new(alloc, checked, layout)?;
     let inputs = kinds_of(alloc, checked.signature())?;
     let kinds = variable_kinds(alloc, elab.reached(), table)?;
-    let mut all_clocks = Vec::new(alloc);
-    all_clocks.extend_from_slice(&clocks.table)?;
+    let children = Children::new(alloc, table)?;
+    let clocks = Clocks::new(alloc, checked, layout)?;
+    let all_clocks = Vec::from_slice(alloc, &clocks.table)?;
     let Some(mut frame) = RowFrame::new(checked, layout, &children, &clocks, InstanceId(0)) else {
         unreachable!()
     };

@@ -4,7 +4,7 @@ use Words.{◌≡◌, inl, inr, ℕ, ◌+◌, ◌<◌, Bool, true, false, cond, 
 use Words.{◌++◌, length, map, flat_map, refl, ap, ap₂, sym, ◌∙◌, subst, arith, bytes_eq}
 use Words.{bytes_eq-Decides, same_Some, ◌>>=◌, Every, In, all_some, either_or, listed, Name, Static}
 use Words.{Node_named, Symbol, Expr, Variable, Group, Call, Iterate, Exprs, Nil, Cons, Declaration}
-use Words.{Node, Statement, Equation, and_first, and_second, DataType, is_type, are_types}
+use Words.{Node, Statement, Equation, DataType, are_types}
 use Words.{variables, variable_type, width, Program, Instance, Path, Root, Observer, Child, Site}
 use Words.{call_site, instance_at, instances, instance_count, callee_of, node_named, static_refusal}
 use Words.{named, check_refusal, found_from, site_clock, Occurrence, at, call_count}
@@ -16,7 +16,7 @@ use Words.{callee_node, called, path_is, at_path, in_instances, IsOver, found_so
 use Words.{occurrence_fits, own_site, call_of_site, bound, site_occurs, found_name, FlatClock}
 use Words.{instants, flat_clock, where_signed, layout, argument_clocks, call_clocks, FlatEquation}
 use Words.{column, Holds, Layout, Target, targets, copied, received, call_copies, emit, emit_each}
-use Words.{◌&&◌, Base, On, as_variable, declared_clock, given_outputs, ungrouped, outer, base_clock}
+use Words.{Base, On, as_variable, declared_clock, given_outputs, ungrouped, outer, base_clock}
 use Rattle.lb_check.specs.{Clocks.{Clock, given_inputs}, Solutions.IsJoinedAt}
 use Rattle.lb_check.proofs.{lists.Members.Every-range, programs.ServedVariables.zip_first}
 use Rattle.lb_check.proofs.programs.ServedVariables.{IsCallOf, IsRightOf, serving_same}
@@ -31,11 +31,15 @@ use Rattle.lb_expand.proofs.copies.CallCopies.{IsLeftCopied}
 use Rattle.lb_expand.proofs.numbering.NumberedPlaces.{places_nowhere, signs_nowhere, signs_are}
 use Rattle.lb_expand.proofs.numbering.{NumberedPlaces.places_width, ReceivedInputs.target_count}
 use Rattle.lb_expand.proofs.solutions.{FlatHistories.halves, Placing.{columns, targeted}}
-use Rattle.lb_expand.proofs.widths.TypeFacts.{each, width_of, same_count}
+use Rattle.lb_expand.proofs.widths.TypeFacts.{each, width_of, same_count, types_first}
 
 -- In a history that solves an accepted program, a variable that serves for another in a clock has
 -- the streams of the other, and each instance runs on its clock. So do streams of flat elements
 -- that agree with the variables.
+
+-- what is nothing is no value
+none_is : {A B : Type 0} (x : A) → None ≡ Some x → B
+none_is x e = absurd cc
 
 -- a name for which a variable is given is the name of an input
 input_named : (ds : List Declaration) (es : Exprs) (x : Name) (g : Name × Name) →
@@ -133,8 +137,8 @@ module _ (P : Program) (H : History) (here : Instance) where
       named (λ d. d.name) g.1 (variables here.node) ≡ Some v →
       Receives H p ds (argument_streams P H here (map f ds) n es) →
       found_in (given_inputs ds es) x ≡ Some g → H.columns p x ≡ H.columns here.path g.1
-  received_same f n p [] es x g v is r found = absurd cc
-  received_same f n p (d ∷ ds) Nil x g v is r found = absurd cc
+  received_same f n p [] es x g v is r found = none_is g found
+  received_same f n p (d ∷ ds) Nil x g v is r found = none_is g found
   received_same f n p (d ∷ ds) (Cons a es) x g v is r found =
       first_received (f d) n p d ds a es x g v is r.0
       (λ later. received_same f (n + call_count a) p ds es x g v is r.1 later) found
@@ -151,28 +155,22 @@ module _ (P : Program) (H : History) (here : Instance) where
       flat_map (H.columns here.path) xs ≡ flat_map (λ o. H.columns c.path o.name) ds →
       (x : Name) (g : Name × Name) → found_in (given_outputs ds xs) x ≡ Some g →
       H.columns c.path x ≡ H.columns here.path g.1
-  results_same c [] xs outs lefts wide own p q e same x g found = absurd cc
-  results_same c (d ∷ ds) [] outs lefts wide own p q e same x g found = absurd cc
+  results_same c [] xs outs lefts wide own p q e same x g found = none_is g found
+  results_same c (d ∷ ds) [] outs lefts wide own p q e same x g found = none_is g found
   results_same c (d ∷ ds) (y ∷ xs) outs lefts wide own p q e same x g found =
       let h = each _ _ outs p in
       let i = each _ _ lefts q in
-      let types : (is_type h.first i.first && are_types h.rest i.rest) ≡ true =
-      cc (h.all, i.all) in
+      let types = types_first h.all i.all e in
       let v = bound (named (λ d. d.name) y (variables here.node)) (variable_type P here) i.first
       i.is in
       let ys = H.columns here.path y in
       let zs = H.columns c.path d.name in
       let long : length ys ≡ length zs =
-      cc (
-        own v.value y v.is,
-        width_of P here v.value i.first v.gives,
-        same_count h.first i.first
-            (and_first (is_type h.first i.first) _ types),
-        width_of P c d h.first h.is,
-        wide.0,
-      ) in
+      own v.value y v.is ∙ width_of P here v.value i.first v.gives
+      ∙ sym (same_count h.first i.first types.0) ∙ sym (width_of P c d h.first h.is)
+      ∙ sym wide.0 in
       by (bytes_eq d.name x) refl (halves _ _ _ _ long same).first (λ later. results_same c ds xs
-      h.rest i.rest wide.1 own h.others i.others (and_second (is_type h.first i.first) _ types)
+      h.rest i.rest wide.1 own h.others i.others types.1
       (halves _ _ _ _ long same).second x g later) found
     where
       by : (b : Bool) → bytes_eq d.name x ≡ b →
@@ -372,8 +370,8 @@ module _ (P : Program) (accepted : static_refusal P ≡ None) (checked : check_r
         (all_streams P H here k (n + 1) es) i)) 0 count index each_joined lower).0
     joined_runs here k n index (Iterate it (Symbol op) m es) s count c is counts lower gives
         joined =
-        absurd cc
-    joined_runs here k n index _ s count c is counts lower gives joined = absurd cc
+        none_is s is
+    joined_runs here k n index _ s count c is counts lower gives joined = none_is s is
 
     -- each instance runs on its flat clock
     pub runs_history :

@@ -21,8 +21,8 @@ use Rattle.lb_expand.proofs.copies.CopiedCalls.{IsPassed, AreDeclared, AreMatche
 use Rattle.lb_expand.proofs.copies.CopiedCalls.{matched-crossed, matched-pairs, IsDefinedBy, AreFed}
 use Rattle.lb_expand.proofs.copies.CopiedCalls.{received_paired}
 use Rattle.lb_expand.proofs.numbering.NumberedPlaces.{elements_numbered, elements_declared}
-use Rattle.lb_expand.proofs.{numbering.NumberedPlaces.places_width, reads.LinkTerms.AreNumbered}
-use Rattle.lb_expand.proofs.reads.LinkTerms.{IsAwaited, IsRunning, IsLinkable, IsKnown}
+use Rattle.lb_expand.proofs.numbering.NumberedPlaces.{columns_wide, places_width}
+use Rattle.lb_expand.proofs.reads.LinkTerms.{AreNumbered, IsAwaited, IsRunning, IsLinkable, IsKnown}
 use Rattle.lb_expand.proofs.reads.LinkWords.{Pairs, AllMeet, variable_links}
 use Rattle.lb_expand.proofs.{solutions.Placing.AreAsWide, widths.SoundInstances.occurrences_at}
 use Rattle.lb_expand.proofs.widths.{SoundInstances.calls_wide, Widths.{IsTypedAt, AreVariablesWide}}
@@ -48,7 +48,7 @@ module _ (P : Program) (accepted : static_refusal P ≡ None) (checked : check_r
       (here : Instance) → In here (instances P) →
       Every (λ d. length (H.columns here.path d.name) ≡ width P here d) (variables here.node)
   wide here j =
-      Every-map _ _ (λ d e. sym (same here.path d.name) ∙ e) (variables here.node)
+      columns_wide (layout P) [] [] here.path (width P here) (variables here.node)
       (places_width P accepted here j)
 
   module _ (here : Instance) where

@@ -27,7 +27,8 @@ use Rattle.lb_expand.proofs.lists.Lists.{total, total-append, total-plus, total-
 use Rattle.lb_expand.proofs.lists.Lists.{is_name, named_in, in_named, map-pieces, total-map, times}
 use Rattle.lb_expand.proofs.lists.Lists.{times_of, of_times, once_apart, range_low, range_high}
 use Rattle.lb_expand.proofs.lists.Lists.{range_once, same_sums}
-use Rattle.lb_expand.proofs.numbering.NumberedPlaces.{places_walk, places_width, is_laid_out}
+use Rattle.lb_expand.proofs.numbering.NumberedPlaces.{columns_wide, places_walk, places_width}
+use Rattle.lb_expand.proofs.numbering.NumberedPlaces.{is_laid_out}
 use Rattle.lb_expand.proofs.solutions.{Closing.Closed, Filling.Fresh, Placing.AreAsWide}
 use Rattle.lb_expand.proofs.solutions.{Solving.start_closed, Watching.all_places}
 use Rattle.lb_expand.proofs.widths.{TypeFacts.{both_there, each}, PlacedCalls.body_wide}
@@ -389,7 +390,7 @@ module _ (P : Program) (accepted : static_refusal P ≡ None) (checked : check_r
       (here : Instance) → In here (instances P) →
       Every (λ d. length (H.columns here.path d.name) ≡ width P here d) (variables here.node)
   wide here j =
-      Every-map _ _ (λ d e. sym (same here.path d.name) ∙ e) (variables here.node)
+      columns_wide (layout P) [] [] here.path (width P here) (variables here.node)
       (places_width P accepted here j)
 
   all_defined : Every (λ here. is_defined P here.node ≡ true) (instances P)

@@ -9,7 +9,7 @@ use Words.{before_instances, bodies, Context, emit_rows, places_from, start_in, 
 use Words.{observed_at, begun_at, outputs_at, row_clocks, whole, IsReady, FlatEquation, kinds_from}
 use Words.{numbers_of, onto, IsTableClock, AreClocks, Clock}
 use Rattle.{std.proofs.lemmas.List.get_or_past, lb_flat.specs.declared.equation.Equation.Equation}
-use Rattle.lb_expand.specs.AssembledPrograms.{after_copies, assembled}
+use Rattle.lb_expand.specs.AssembledPrograms.{equations_behind, assembled}
 use Rattle.lb_expand.proofs.{emission.TermSteps.next_of_rows, fits.KindFacts.length-kinds_from}
 use Rattle.lb_expand.proofs.emission.TermSteps.{rows_grow}
 
@@ -130,14 +130,14 @@ module _ (r : Reached) (t : Table) (cs : ℕ → Context) (inputs kinds : List K
   rows_emitted = emit_rows (before_instances count) (bodies r t cs 0 t.instances.items)
 
   pub whole_made :
-      (s u : State) (begun : List FlatEquation) (all : List Kind) (elements : List ℕ)
-      (property : ℕ) → u ≡ after_copies begun s →
+      (s : State) (begun qs : List FlatEquation) (all : List Kind) (elements : List ℕ)
+      (property : ℕ) → qs ≡ equations_behind begun s →
       begun ≡ begun_at cs (start_in r t false) (start_in r t true) → s ≡ rows_emitted →
       all ≡ kinds ++ kinds_from kinds s.equations →
       elements ≡ row_clocks r t cs 0 t.instances.items →
       property ≡ get_or (outputs_at cs (or_else (start_in r t true) (start_in r t false))) 0 0 →
-      assembled u inputs all count elements property ≡ whole r t cs inputs kinds count
-  whole_made s u begun all elements property joined is rows kinds_are clocks first =
+      assembled s qs inputs all count elements property ≡ whole r t cs inputs kinds count
+  whole_made s begun qs all elements property joined is rows kinds_are clocks first =
       let root = start_in r t false in
       let observer = start_in r t true in
       let before = begun_at cs root observer in

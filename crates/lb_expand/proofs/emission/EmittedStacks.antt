@@ -233,6 +233,15 @@ below_at xs ns i d lt e =
     let within : i < length (numbers_of xs) = grind (arith, taken, same, lt) in
     cc (number_at xs i d within, get_or-take (length ns) (numbers_of xs) i 0 lt)
 
+-- a stack has at least the items that still stand below
+pub still_long : (xs : List ElementId) (ns : List ℕ) → take (length ns) (numbers_of xs) ≡ ns →
+    length ns ≤ length xs
+still_long xs ns e =
+    let size = length-map xs (λ (a : ElementId). a.0) in
+    let taken = length-take (length ns) (numbers_of xs) in
+    let same = ap (λ (is : List ℕ). length is) e in
+    grind (arith, taken, same, size)
+
 -- `map f` from place i on is `f` of item i, and then `map f` from i + 1 on
 pub map_more : (f : ℕ → flat.Operation) (ns : List ℕ) (i d : ℕ) → i < length ns →
     map f (drop i ns) ≡ f (get_or ns i d) ∷ map f (drop (i + 1) ns)

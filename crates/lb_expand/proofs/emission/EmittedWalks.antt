@@ -461,13 +461,13 @@ module _ {ctx : Context} {at : Cursor} {s : State} {t : Term} {v : Scalar}
       let room = h.elements in
       omega (arith, more, same, room)
 
-  -- a term of one value is done when an element with the value is pushed
-  pub value_done :
-      {to : Cursor} {k : FlatClock} {w : Scalar} {new : Emitted} (below : List ℕ) →
-      to ≡ next_term at → new ≡ pushed k (Constant w) (gives s below) → k ≡ ctx.clock at.term →
-      w ≡ v → placed to new ≡ stacked below (emit_term ctx at s t)
-  unfolding add
-  value_done below place h clock value = cc (valued.is)
+-- a term of one value is done when an element with the value is pushed
+pub constant_done :
+    {at to : Cursor} {k l : FlatClock} (s : State) (v : Scalar) {new : Emitted} (below : List ℕ) →
+    to ≡ next_term at → new ≡ pushed k (Constant v) (gives s below) → k ≡ l →
+    placed to new ≡ stacked below (placed (next_term at) (constant l s v))
+unfolding add
+constant_done s v below place h clock = cc
 
 -- a variable is done when its elements are put
 pub variable_done :

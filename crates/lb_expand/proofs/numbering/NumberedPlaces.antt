@@ -12,7 +12,7 @@ use Words.{length-range_with_len, bytes_eq-Decides, slice_get_within, same_Some,
 use Words.{are_distinct, variable_names, named, found_passes, Element, elements, elements_named}
 use Words.{number_of, find_in, variables_distinct, length_elements, length-map, Expr, DataType}
 use Words.{occurrences, Stream, Inputs, History, data_types, State, emit, column, history_of}
-use Words.{Always_whole, Where_whole, numbers_below}
+use Words.{Always_whole, Where_whole, numbers_below, Layout}
 use Rattle.lb_check.specs.{Clocks.Clock, Elements.numbers_of}
 use Rattle.lb_check.proofs.programs.AcceptedElements.{numbers_walk, numbers_width, same_declaration}
 use Rattle.lb_check.proofs.programs.Numbers.{found_at, range_get, numbers_some}
@@ -26,6 +26,17 @@ use Rattle.lb_expand.proofs.widths.Widths.{IsOccurrenceWide, wide}
 
 -- The layout of an accepted program by numbers: the elements of variables are the first ones, in
 -- the order of instantiation, each variable has as many as it is wide, and clocks name no others.
+
+-- ## Widths of the columns of a history
+
+-- variables have as many columns as places
+pub columns_wide :
+    (Y : Layout) (X : Inputs) (F : List Stream) (p : Path) (w : Declaration → ℕ)
+    (ds : List Declaration) → Every (λ d. length (Y.places p d.name) ≡ w d) ds →
+    Every (λ d. length ((history_of Y X F).columns p d.name) ≡ w d) ds
+columns_wide Y X F p w [] h = tt
+columns_wide Y X F p w (d ∷ ds) h =
+    (length-map (Y.places p d.name) (column X F) ∙ h.0, columns_wide Y X F p w ds h.1)
 
 -- ## Where there is an instance, and where not
 

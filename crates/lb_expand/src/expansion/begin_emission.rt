@@ -185,18 +185,10 @@ impl Beginning {
         emission.begin(frame, root, observer)?;
         let property = emission.property(frame, watched(root, observer))?;
         emission.put_clocks(alloc, frame, reached, table)?;
-        let TermEmission {
-            copies,
-            found,
-            clocks: _clocks,
-            equations: _equations,
-            next: _next,
-            memory_operands: _memory_operands,
-            asserted: _asserted,
-        } = emission;
+        let (copies, clock_elements) = emission.into_copies_and_found();
         Ok(Beginning {
             copies,
-            clock_elements: found,
+            clock_elements,
             property,
         })
     }

@@ -164,6 +164,29 @@ impl TermEmission {
         }
     }
 
+    /// Emits a term at a place that has this value; returns the place after it.
+    fn constant<F: Frame>(
+        &mut self,
+        frame: &F,
+        value: Scalar,
+        at: Cursor,
+    ) -> Result<Cursor, AllocError>
+        requires clocks { F.clocks frame.now ≡ self.old.clocks.items }
+        requires room { self.old.next + 1 < 2 ^ 32 }
+        requires place { at.term + 1 < 2 ^ 64 }
+        ensures emitted { IfOk result (λ to.
+            mirror.placed (place_of to) (emitted_of self.new)
+            ≡ stacked (numbers_of self.old.found.items)
+            (mirror.placed (mirror.next_term (place_of at))
+            (mirror.constant ((F.context frame.now).clock at.term) (state_of self.old)
+            (scalar_of value)))) }
+        ensures clocks { OnOk result (self.new.clocks ≡ self.old.clocks) }
+    {
+        let clock = frame.clock(at.term);
+        self.push_found(clock, Operation::Constant(value))?;
+        Ok(next_term(at))
+    }
+
     /// Emits a term at a place; returns the place after it.
     #[cycle(form_emission)]
     pub(crate) fn emit<F: Frame>(
@@ -184,25 +207,13 @@ impl TermEmission {
     {
         let from = self.found.len();
         match term {
-            Term::Literal(n) => {
-                let clock = frame.clock(at.term);
-                self.push_found(clock, Operation::Constant(literal(*n)))?;
-                Ok(next_term(at))
-            }
-            Term::Truth(b) => {
-                let clock = frame.clock(at.term);
-                self.push_found(clock, Operation::Constant(Scalar::Boolean(*b)))?;
-                Ok(next_term(at))
-            }
+            Term::Literal(n) => self.constant(frame, literal(*n), at),
+            Term::Truth(b) => self.constant(frame, Scalar::Boolean(*b), at),
             Term::Variable(x) => {
                 self.put(frame.places(*x))?;
                 Ok(next_term(at))
             }
-            Term::Value(i) => {
-                let clock = frame.clock(at.term);
-                self.push_found(clock, Operation::Constant(frame.value(*i)))?;
-                Ok(next_term(at))
-            }
+            Term::Value(i) => self.constant(frame, frame.value(*i), at),
             Term::Group(e) => self.emit(frame, e, at),
             Term::Unary(_, e)
             | Term::Pre(e)

@@ -3,13 +3,14 @@
 ghost use Rattle.std.specs.Prelude.{◌≡◌, ◌<◌, ◌≤◌, All};
 ghost use Rattle.lb_flat.specs.Within.{IsWithin};
 
+mod program_emission;
+
 use crate::expansion::operators::{Pair, Unary};
 use lb_flat::{Clock, ClockId, ElementId, Equation, Operation, Scalar};
 use lb_syntax::{ArrayIterator, BinaryOperator, UnaryOperator};
 use std::alloc::{AllocError, Global};
 
 /// The state of emission, with a stack of the elements that hold results.
-#[derive(Drop)]
 pub(crate) struct TermEmission {
     /// The clocks of the program.
     pub(crate) clocks: Vec<Clock>,
@@ -30,6 +31,21 @@ pub(crate) struct TermEmission {
     pub ghost memory_operands_within: { All (λ a. a.0 < next) memory_operands.items },
     pub ghost asserted_within: { All (λ a. a.0 < next) asserted.items },
     pub ghost found_within: { All (λ a. a.0 < next) found.items },
+}
+
+// Not derived, so that a caller drops it in one step.
+impl Drop for TermEmission {
+    fn drop(self) {
+        let TermEmission {
+            clocks: _,
+            equations: _,
+            copies: _,
+            next: _,
+            memory_operands: _,
+            asserted: _,
+            found: _,
+        } = self;
+    }
 }
 
 impl TermEmission {

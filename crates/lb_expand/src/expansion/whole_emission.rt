@@ -128,6 +128,13 @@ pub(crate) fn emit_program<F: TableFrame>(
     emission.rows(frame, reached, table)?;
     let mut all_kinds = kinds;
     temporary_kinds(&mut all_kinds, &emission.equations)?;
-    let whole = emission.after(copies)?;
-    whole.into_program(inputs, all_kinds, variables, clock_elements, property)
+    let equations = emission.equations_behind(copies)?;
+    Ok(emission.into_program(
+        equations,
+        inputs,
+        all_kinds,
+        variables,
+        clock_elements,
+        property,
+    ))
 }

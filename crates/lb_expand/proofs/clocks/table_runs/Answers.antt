@@ -1,6 +1,6 @@
 -- Each pass adds the clock on which one row runs.
 use Rattle.lb_expand.proofs.Words.{◌≡◌, ◌∷◌, ◌++◌, ◌<◌, [], length, get_or, ap, ◌∙◌, subst, rules}
-use Rattle.lb_expand.proofs.Words.{Table, sources_of, row_runs}
+use Rattle.lb_expand.proofs.Words.{Table, sources_of, row_runs, table_runs, ◌≤◌, arith, take_all}
 use Rattle.lb_expand.proofs.clock_tables.AddedClocks.{next_added}
 use Rattle.lb_static.specs.declared.table.Instance as row
 use Rattle.lb_expand.proofs.clocks.table_runs.Goals as goal
@@ -23,3 +23,16 @@ loop-row-preserved c =
     (c.row_runs-clock.ensures
     ∙ ap (λ before. row_runs from before i.origin) c.deref.ensures.value)
     ∙ ap (λ (z : row.Instance). l.runs.items ++ row_runs from l.runs.items z.origin ∷ []) is)
+
+pub returns : goal.returns
+returns c =
+    let l = c.loop-row in
+    let t = c.args.checked.now.elab.table in
+    let same : c.table-table.result.now ≡ t =
+    c.table-table.ensures.value ∙ ap (λ e. e.table) c.elab.ensures.value in
+    let above : length c.table-table.result.now.instances.items ≤ l.row =
+    omega (arith, c.loop-row-test.false, l.auto.row-end, c.len-row-end.ensures) in
+    l.invariant
+    ∙ ap (table_runs (sources_of c.args.checked.now c.args.layout.now))
+    (take_all l.row t.instances.items
+    (subst (λ (t : Table). length t.instances.items ≤ l.row) same above))

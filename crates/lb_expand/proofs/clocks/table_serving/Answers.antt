@@ -1,6 +1,6 @@
 -- Each pass adds what serves for the variables of one row.
 use Rattle.lb_expand.proofs.Words.{◌≡◌, ◌++◌, ◌<◌, length, get_or, ap, ◌∙◌, subst, rules, Table}
-use Rattle.lb_expand.proofs.Words.{sources_of, row_serving}
+use Rattle.lb_expand.proofs.Words.{sources_of, row_serving, table_serving, ◌≤◌, arith, take_all}
 use Rattle.lb_expand.proofs.clock_tables.AddedClocks.{next_added}
 use Rattle.lb_static.specs.declared.table.Instance as row
 use Rattle.lb_expand.proofs.clocks.table_serving.Goals as goal
@@ -21,3 +21,16 @@ loop-row-preserved c =
     (c.in_ok-push_serving.ensures
     ∙ ap (λ (z : row.Instance). l.serving.items ++ row_serving from l.row z.origin l.serving.items)
     is)
+
+pub returns : goal.returns
+returns c =
+    let l = c.loop-row in
+    let t = c.args.checked.now.elab.table in
+    let same : c.table-table.result.now ≡ t =
+    c.table-table.ensures.value ∙ ap (λ e. e.table) c.elab.ensures.value in
+    let above : length c.table-table.result.now.instances.items ≤ l.row =
+    omega (arith, c.loop-row-test.false, l.auto.row-end, c.len-row-end.ensures) in
+    l.invariant
+    ∙ ap (table_serving (sources_of c.args.checked.now c.args.layout.now))
+    (take_all l.row t.instances.items
+    (subst (λ (t : Table). length t.instances.items ≤ l.row) same above))

@@ -1,5 +1,5 @@
 -- What is emitted from the rows of a checked program is its expansion.
-use Rattle.lb_expand.proofs.Words.{◌≡◌, ℕ, ap, ap₂, refl, rules, sym, subst, ◌∙◌}
+use Rattle.lb_expand.proofs.Words.{◌≡◌, ℕ, ap, ap₂, refl, sym, subst, ◌∙◌}
 use Rattle.lb_expand.proofs.Words.{elaborated_program, kinds_of, Table, IsBounded, IsExpansionOf}
 use Rattle.lb_expand.proofs.Words.{program_of, table_kinds, called_row, child_row, all_clocks}
 use Rattle.lb_expand.proofs.Words.{sources_of, AreClocks, Clocks, false, true, then_ok}
@@ -44,7 +44,7 @@ emit_program-requires c =
     let e = framed_emit x lawful l all k laid kept c.in_ok-clocks.ensures.table
     c.in_ok-clocks.ensures.runs c.requires.small _ are in
     let below = numbers_small _ e in
-    let same : c.extend_from_slice.new.self.items ≡ k.table.items = search rules in
+    let same = c.in_ok-all_clocks.ensures.items ∙ c.deref.ensures.value in
     record {
       table = ap (λ (k : Clocks). k.table.items) at.clocks ∙ sym same;
       variables = ap (λ (l : Layout). l.count) at.layout;
@@ -79,7 +79,7 @@ returns c =
     c.in_ok-kinds.kinds.items (c.in_ok-kinds.ensures ∙ ap₂ table_kinds er et) l.count refl in
     let e = framed_emit x lawful l all k laid kept c.in_ok-clocks.ensures.table
     c.in_ok-clocks.ensures.runs c.requires.small _ are in
-    let same : c.extend_from_slice.new.self.items ≡ k.table.items = search rules in
+    let same = c.in_ok-all_clocks.ensures.items ∙ c.deref.ensures.value in
     record {
       expansion =
           then_ok c.emit_program.result _

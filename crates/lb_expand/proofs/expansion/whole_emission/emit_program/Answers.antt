@@ -1,13 +1,13 @@
-use Rattle.lb_expand.proofs.Words.{◌≡◌, ℕ, ◌++◌, Vec, Global, IfOk, arith, sym, ap, ap₂, subst, ◌∙◌}
-use Rattle.lb_expand.proofs.Words.{State, bodies, Context, emit_rows, kinds_from, FlatProgram}
-use Rattle.lb_expand.proofs.Words.{numbers_of, flat_equations, program_of, state_of, Clock}
+use Rattle.lb_expand.proofs.Words.{◌≡◌, ℕ, ◌++◌, Vec, Global, arith, sym, ap, ap₂, refl, ◌∙◌}
+use Rattle.lb_expand.proofs.Words.{State, bodies, Context, emit_rows, kinds_from, program_of}
+use Rattle.lb_expand.proofs.Words.{numbers_of, flat_equations, state_of, Clock}
 use Rattle.lb_expand.proofs.emission.EmittedProgram.{clocks_later, rows_later, kinds_counted}
 use Rattle.lb_expand.proofs.emission.EmittedProgram.{whole_made}
 use Rattle.lb_expand.proofs.emission.EmittedStacks.{equations_later, elements_later}
 use Rattle.lb_expand.proofs.expansion.whole_emission.emit_program.Goals as goal
 
-pub after-requires : goal.after-requires
-after-requires g c =
+pub equations_behind-requires : goal.equations_behind-requires
+equations_behind-requires g c =
     let grows = rows_later _ c.in_ok-rows.ensures.state c.new-emission.ensures.state in
     let clocks = ap (λ (cs : Vec Clock Global). cs.items)
     (c.in_ok-rows.ensures.clocks ∙ c.new-emission.ensures.clocks) in
@@ -17,41 +17,26 @@ after-requires g c =
           c.in_ok-beginning.ensures.copies_within grows);
     }
 
-pub into_program-requires-clause-clocks : goal.into_program-requires-clause-clocks
-into_program-requires-clause-clocks g c =
-    let next = ap (λ (s : State). s.next) c.in_ok-whole.ensures.state in
-    let grows = rows_later _ c.in_ok-rows.ensures.state c.new-emission.ensures.state in
-    let clocks = ap (λ (cs : Vec Clock Global). cs.items)
-    (c.in_ok-whole.ensures.clocks ∙ (c.in_ok-rows.ensures.clocks
-    ∙ c.new-emission.ensures.clocks)) in
-    rw clocks (clocks_later _ _ _ c.requires.clocks (omega (arith, next, grows)))
-
-pub into_program-requires-clause-kinds : goal.into_program-requires-clause-kinds
-into_program-requires-clause-kinds g c =
-    let kinds = c.args.kinds.items in
+pub into_program-requires : goal.into_program-requires
+into_program-requires g c =
     let e = c.rows.new.self in
-    kinds_counted _ c.in_ok-rows.ensures.state c.new-emission.ensures.state _ c.requires.kinds (ap
-    (λ (s : State). s.next) c.in_ok-whole.ensures.state) (c.in_ok-temporary_kinds.ensures
-    e.clocks.items ∙ ap (λ qs. kinds ++ kinds_from kinds (flat_equations e.clocks.items qs))
-    c.deref-2.ensures.value)
-
-pub into_program-requires-clause-variables : goal.into_program-requires-clause-variables
-into_program-requires-clause-variables g c =
-    let next = ap (λ (s : State). s.next) c.in_ok-whole.ensures.state in
-    let grows = rows_later _ c.in_ok-rows.ensures.state c.new-emission.ensures.state in
-    omega (arith, next, grows)
-
-pub into_program-requires-clause-clock_elements : goal.into_program-requires-clause-clock_elements
-into_program-requires-clause-clock_elements g c =
-    let next = ap (λ (s : State). s.next) c.in_ok-whole.ensures.state in
-    let grows = rows_later _ c.in_ok-rows.ensures.state c.new-emission.ensures.state in
-    elements_later _ _ _ c.in_ok-beginning.ensures.clocks_within (omega (arith, next, grows))
-
-pub into_program-requires-clause-property : goal.into_program-requires-clause-property
-into_program-requires-clause-property g c =
-    let next = ap (λ (s : State). s.next) c.in_ok-whole.ensures.state in
-    let grows = rows_later _ c.in_ok-rows.ensures.state c.new-emission.ensures.state in
-    omega (arith, next, grows, c.in_ok-beginning.ensures.property_within)
+    let kinds = c.args.kinds.items in
+    let rows = c.in_ok-rows.ensures.state in
+    let start = c.new-emission.ensures.state in
+    let grows = rows_later _ rows start in
+    let clocks = ap (λ (cs : Vec Clock Global). cs.items)
+    (c.in_ok-rows.ensures.clocks ∙ c.new-emission.ensures.clocks) in
+    record {
+      clocks = rw clocks (clocks_later _ _ _ c.requires.clocks grows);
+      equations = c.in_ok-equations.ensures.within;
+      kinds = kinds_counted _ rows start _ c.requires.kinds refl
+          (c.in_ok-temporary_kinds.ensures e.clocks.items
+          ∙ ap (λ qs. kinds ++ kinds_from kinds (flat_equations e.clocks.items qs))
+          c.deref-2.ensures.value);
+      variables = grows;
+      clock_elements = elements_later _ _ _ c.in_ok-beginning.ensures.clocks_within grows;
+      property = omega (arith, grows, c.in_ok-beginning.ensures.property_within);
+    }
 
 pub returns-clause-program : goal.returns-clause-program
 returns-clause-program g c =
@@ -71,9 +56,10 @@ returns-clause-program g c =
     let known = c.in_ok-temporary_kinds.ensures e.clocks.items
     ∙ ap (λ qs. kinds ++ kinds_from kinds (flat_equations e.clocks.items qs))
     c.deref-2.ensures.value in
-    subst (λ (f : FlatProgram). IfOk c.into_program.result (λ p. program_of p ≡ f))
-    (whole_made r t cs c.args.inputs.items kinds c.args.variables (state_of e)
-    (state_of c.in_ok-whole.whole) (flat_equations e.clocks.items b.copies.items)
+    c.into_program.ensures.program
+    ∙ whole_made r t cs c.args.inputs.items kinds c.args.variables (state_of e)
+    (flat_equations e.clocks.items b.copies.items)
+    (flat_equations e.clocks.items c.in_ok-equations.equations.items)
     c.temporary_kinds.new.kinds.items (numbers_of b.clock_elements.items) b.property.0
-    c.in_ok-whole.ensures.state begun all known c.in_ok-beginning.ensures.clock_elements
-    c.in_ok-beginning.ensures.property) c.into_program.ensures.program
+    c.in_ok-equations.ensures.equations begun all known c.in_ok-beginning.ensures.clock_elements
+    c.in_ok-beginning.ensures.property

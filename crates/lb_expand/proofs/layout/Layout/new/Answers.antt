@@ -58,3 +58,12 @@ returns-clause-variables c row le =
     (λ within. starts f items l.variables.items l.starts.items l.count
     (all_stored f items l.row-index l.variables.items l.starts.items l.count c.loop-row-test.false
     l.invariant) row within) le
+
+pub returns-clause-count : goal.returns-clause-count
+returns-clause-count c =
+    let l = c.loop-row in
+    let f = widths_in c.args.reached.now c.args.table.now in
+    let items = c.deref-row-items.result.now in
+    (all_stored f items l.row-index l.variables.items l.starts.items l.count c.loop-row-test.false
+    l.invariant).count_is
+    ∙ ap (λ rows. sum_of (flat_map f rows)) c.deref-row-items.ensures.value

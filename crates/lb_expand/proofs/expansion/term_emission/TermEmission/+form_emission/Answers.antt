@@ -1,7 +1,7 @@
 use Rattle.lb_expand.proofs.Words
 use Words.{◌≡◌, ◌<◌, ◌≤◌, ◌+◌, ◌*◌, length, arith, rules, inl, inr, Vec, Global, refl, sym, ap}
 use Words.{subst, ◌∙◌, drop_all, PlacedEmitted, next_term, row_place, emit_term, place_of, HasRoom}
-use Words.{numbers_of, state_of, emitted_of, clock_of, Clock}
+use Words.{numbers_of, state_of, emitted_of, clock_of, Clock, constant, placed}
 use denote.Param.Weighed.{at_most}
 use Rattle.lb_static.specs.declared.resolved.Term.TheViews.{sized-Group, sized-Unary, sized-Pre}
 use Rattle.lb_static.specs.declared.resolved.Term.TheViews.{sized-Current, sized-When}
@@ -19,7 +19,7 @@ use Rattle.lb_expand.proofs.emission.EmittedStatements.{same_list, moved_room, t
 use Rattle.lb_expand.proofs.emission.EmittedStatements.{first_part, second_part, pair_done}
 use Rattle.lb_expand.proofs.emission.EmittedStatements.{if_done, three_left}
 use Rattle.lb_expand.proofs.emission.EmittedWalks.{literal_is, truth_is, variable_is, value_is}
-use Rattle.lb_expand.proofs.emission.EmittedWalks.{group_is, leaf_fits, value_room, value_done}
+use Rattle.lb_expand.proofs.emission.EmittedWalks.{group_is, leaf_fits, value_room}
 use Rattle.lb_expand.proofs.emission.EmittedWalks.{variable_done, single_room, single_word}
 use Rattle.lb_expand.proofs.emission.EmittedWalks.{single_done, pair_room, pair_word, row_room}
 use Rattle.lb_expand.proofs.emission.EmittedWalks.{row_word, row_done, first_room, second_room}
@@ -31,59 +31,62 @@ use Rattle.lb_expand.proofs.expansion.term_emission.TermEmission.+form_emission.
 
 -- ## Terms without parts
 
-pub emit-push_found-requires-clause-can : goal.emit-push_found-requires-clause-can
-emit-push_found-requires-clause-can g t c =
-    record { room = value_room (literal_is _ _ _ c.in-Literal.is) c.requires.room; operands = tt }
+pub emit-constant-requires-clause-room : goal.emit-constant-requires-clause-room
+emit-constant-requires-clause-room g t c =
+    value_room (literal_is _ _ _ c.in-Literal.is) c.requires.room
 
-pub emit-push_found-requires-in-Truth-clause-can : goal.emit-push_found-requires-in-Truth-clause-can
-emit-push_found-requires-in-Truth-clause-can g t c =
-    record { room = value_room (truth_is _ _ _ c.in-Truth.is) c.requires.room; operands = tt }
+pub emit-constant-requires-in-Truth-clause-room : goal.emit-constant-requires-in-Truth-clause-room
+emit-constant-requires-in-Truth-clause-room g t c =
+    value_room (truth_is _ _ _ c.in-Truth.is) c.requires.room
 
-pub emit-push_found-requires-in-Value-clause-can : goal.emit-push_found-requires-in-Value-clause-can
-emit-push_found-requires-in-Value-clause-can g t c =
-    record { room = value_room (value_is _ _ _ c.in-Value.is) c.requires.room; operands = tt }
+pub emit-constant-requires-in-Value-clause-room : goal.emit-constant-requires-in-Value-clause-room
+emit-constant-requires-in-Value-clause-room g t c =
+    value_room (value_is _ _ _ c.in-Value.is) c.requires.room
 
-pub emit-next_term-requires : goal.emit-next_term-requires
-emit-next_term-requires g t c =
+pub emit-constant-requires-clause-place : goal.emit-constant-requires-clause-place
+emit-constant-requires-clause-place g t c =
     leaf_fits (literal_is _ _ _ c.in-Literal.is).is c.requires.room
 
-pub emit-next_term-requires-in-Truth : goal.emit-next_term-requires-in-Truth
-emit-next_term-requires-in-Truth g t c =
+pub emit-constant-requires-in-Truth-clause-place : goal.emit-constant-requires-in-Truth-clause-place
+emit-constant-requires-in-Truth-clause-place g t c =
     leaf_fits (truth_is _ _ _ c.in-Truth.is).is c.requires.room
 
-pub emit-next_term-requires-in-Variable : goal.emit-next_term-requires-in-Variable
-emit-next_term-requires-in-Variable g t c =
-    leaf_fits (variable_is _ _ _ c.in-Variable.is) c.requires.room
-
-pub emit-next_term-requires-in-Value : goal.emit-next_term-requires-in-Value
-emit-next_term-requires-in-Value g t c =
+pub emit-constant-requires-in-Value-clause-place : goal.emit-constant-requires-in-Value-clause-place
+emit-constant-requires-in-Value-clause-place g t c =
     leaf_fits (value_is _ _ _ c.in-Value.is).is c.requires.room
 
-pub emit-returns-in_ok-push_found-in-Literal-clause-emitted :
-    goal.emit-returns-in_ok-push_found-in-Literal-clause-emitted
-emit-returns-in_ok-push_found-in-Literal-clause-emitted g t c =
-    value_done (literal_is _ _ _ c.in-Literal.is) _ c.next_term.ensures
-    c.in_ok-push_found-in-Literal.ensures.emitted
-    (same_clock _ c.requires.clocks c.clock-clock.ensures.clock) c.literal.ensures
+pub emit-next_term-requires : goal.emit-next_term-requires
+emit-next_term-requires g t c = leaf_fits (variable_is _ _ _ c.in-Variable.is) c.requires.room
 
-pub emit-returns-in_ok-push_found-in-Truth-clause-emitted :
-    goal.emit-returns-in_ok-push_found-in-Truth-clause-emitted
-emit-returns-in_ok-push_found-in-Truth-clause-emitted g t c =
-    value_done (truth_is _ _ _ c.in-Truth.is) _ c.next_term-in-Truth.ensures
-    c.in_ok-push_found-in-Truth.ensures.emitted
-    (same_clock _ c.requires.clocks c.clock-clock-in-Truth.ensures.clock) refl
+pub emit-returns-in-Literal-clause-emitted : goal.emit-returns-in-Literal-clause-emitted
+emit-returns-in-Literal-clause-emitted g t c =
+    let ctx = g.F.Frame.context c.args.frame.now in
+    let at = place_of c.args.at in
+    let s = state_of c.args.self.now in
+    rw ((literal_is ctx at s c.in-Literal.is).is
+    ∙ ap (λ v. placed (next_term at) (constant (ctx.clock at.term) s v)) (sym c.literal.ensures))
+    c.constant.ensures.emitted
 
-pub emit-returns-in_ok-push_found-in-Value-clause-emitted :
-    goal.emit-returns-in_ok-push_found-in-Value-clause-emitted
-emit-returns-in_ok-push_found-in-Value-clause-emitted g t c =
-    value_done (value_is _ _ _ c.in-Value.is) _ c.next_term-in-Value.ensures
-    c.in_ok-push_found-in-Value.ensures.emitted
-    (same_clock _ c.requires.clocks c.clock-clock-in-Value.ensures.clock) c.value.ensures
+pub emit-returns-in-Truth-clause-emitted : goal.emit-returns-in-Truth-clause-emitted
+emit-returns-in-Truth-clause-emitted g t c =
+    let ctx = g.F.Frame.context c.args.frame.now in
+    let at = place_of c.args.at in
+    let s = state_of c.args.self.now in
+    rw (truth_is ctx at s c.in-Truth.is).is c.constant-in-Truth.ensures.emitted
+
+pub emit-returns-in-Value-clause-emitted : goal.emit-returns-in-Value-clause-emitted
+emit-returns-in-Value-clause-emitted g t c =
+    let ctx = g.F.Frame.context c.args.frame.now in
+    let at = place_of c.args.at in
+    let s = state_of c.args.self.now in
+    rw ((value_is ctx at s c.in-Value.is).is
+    ∙ ap (λ v. placed (next_term at) (constant (ctx.clock at.term) s v)) (sym c.value.ensures))
+    c.constant-in-Value.ensures.emitted
 
 pub emit-returns-in_ok-put-in-Variable-clause-emitted :
     goal.emit-returns-in_ok-put-in-Variable-clause-emitted
 emit-returns-in_ok-put-in-Variable-clause-emitted g t c =
-    variable_done _ (variable_is _ _ _ c.in-Variable.is) c.next_term-in-Variable.ensures
+    variable_done _ (variable_is _ _ _ c.in-Variable.is) c.next_term.ensures
     c.in_ok-put-in-Variable.ensures.emitted c.places.ensures.places
 
 pub emit-emit-requires : goal.emit-emit-requires

@@ -1,9 +1,45 @@
 use Rattle.lb_expand.proofs.Words.{◌≡◌, ◌<◌, ◌≤◌, length, map, drop, arith, Vec, Global, ap, ◌∙◌}
+use Rattle.lb_expand.proofs.Words.{length-map, subst, sym}
 use Rattle.lb_expand.proofs.Words.{ElementId, FlatClock, unary_of, numbers_of, emitted_of, without}
 use Rattle.lb_expand.proofs.Words.{clock_of, operation_of, Clock}
 use Rattle.lb_expand.proofs.emission.EmittedStacks.{each_step, below_at, adding_ends, map_all}
-use Rattle.lb_expand.proofs.emission.EmittedStacks.{numbers_many}
+use Rattle.lb_expand.proofs.emission.EmittedStacks.{numbers_many, still_long}
 use Rattle.lb_expand.proofs.expansion.term_emission.TermEmission.each.Goals as goal
+
+pub index-a-requires : goal.index-a-requires
+index-a-requires c =
+    let l = c.loop-i in
+    let old = c.args.self.now in
+    let size = length-map old.found.items (λ (a : ElementId). a.0) in
+    let long = still_long l.self.found.items (numbers_of old.found.items)
+    l.invariant.adding.below in
+    omega (arith, size, long, l.self.found.ok.0)
+
+pub push_found-requires-clause-can : goal.push_found-requires-clause-can
+push_found-requires-clause-can c =
+    let l = c.loop-i in
+    let old = c.args.self.now in
+    let now = l.self in
+    let a = c.index-a.result.now in
+    let size = length-map old.found.items (λ (a : ElementId). a.0) in
+    let long = still_long now.found.items (numbers_of old.found.items) l.invariant.adding.below in
+    let lt : l.i < length now.found.items = omega (arith, size, long) in
+    let below : a.0 < now.next =
+    subst (λ (x : ElementId). x.0 < now.next) (sym c.index-a.ensures)
+    (now.found_within l.i a lt) in
+    record {
+      room = omega (arith, l.invariant.next, c.requires.room);
+      operands = c.on-operation.ensures.below now.next below;
+    }
+
+pub remove-requires-clause-to : goal.remove-requires-clause-to
+remove-requires-clause-to c =
+    let l = c.loop-i in
+    let old = c.args.self.now in
+    let size = length-map old.found.items (λ (a : ElementId). a.0) in
+    let long = still_long l.self.found.items (numbers_of old.found.items)
+    l.invariant.adding.below in
+    omega (arith, size, long, c.len-top.ensures)
 
 pub loop-i-preserved : goal.loop-i-preserved
 loop-i-preserved c =

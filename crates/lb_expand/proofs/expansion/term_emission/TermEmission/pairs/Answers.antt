@@ -1,10 +1,74 @@
 use Rattle.lb_expand.proofs.Words.{◌≡◌, ◌<◌, ◌≤◌, ◌+◌, ◌-◌, length, drop, min, arith, Vec, Global}
 use Rattle.lb_expand.proofs.Words.{ap, sym, ◌∙◌, min-le_left, min-le_right, length-map, length-drop}
-use Rattle.lb_expand.proofs.Words.{get_or-drop, slice_range, zip2, ElementId, FlatClock, pair_of}
+use Rattle.lb_expand.proofs.Words.{ℕ, subst, get_or-drop, slice_range, zip2, ElementId, FlatClock, pair_of}
 use Rattle.lb_expand.proofs.Words.{numbers_of, emitted_of, without, clock_of, operation_of, Clock}
 use Rattle.lb_expand.proofs.emission.EmittedStacks.{pairs_step, below_at, part_at, length_of_part}
-use Rattle.lb_expand.proofs.emission.EmittedStacks.{adding_ends, zip_done}
+use Rattle.lb_expand.proofs.emission.EmittedStacks.{adding_ends, zip_done, still_long}
+use Rattle.lb_expand.specs.Operators.{IsPairBelow}
+use Rattle.lb_expand.specs.declared.expansion.operators.Pair.{Pair}
+use Rattle.lb_expand.specs.declared.expansion.operators.Pair.TheVariants as pair
 use Rattle.lb_expand.proofs.expansion.term_emission.TermEmission.pairs.Goals as goal
+
+pair_later : (n m : ℕ) (p : Pair) → IsPairBelow n p → n ≤ m → IsPairBelow m p
+pair_later n m (pair.Data op) h le = tt
+pair_later n m pair.FirstThen h le = tt
+pair_later n m (pair.Choose c) h le = omega (arith, h, le)
+
+pub index-a-requires : goal.index-a-requires
+index-a-requires c =
+    let l = c.loop-i in
+    let old = c.args.self.now in
+    let size = length-map old.found.items (λ (a : ElementId). a.0) in
+    let long = still_long l.self.found.items (numbers_of old.found.items)
+    l.invariant.adding.below in
+    let left = min-le_left (c.args.middle - c.args.from) (c.len-top.result - c.args.middle) in
+    omega (arith, size, long, left, l.self.found.ok.0)
+
+pub index-b-requires : goal.index-b-requires
+index-b-requires c =
+    let l = c.loop-i in
+    let old = c.args.self.now in
+    let size = length-map old.found.items (λ (a : ElementId). a.0) in
+    let long = still_long l.self.found.items (numbers_of old.found.items)
+    l.invariant.adding.below in
+    let right = min-le_right (c.args.middle - c.args.from) (c.len-top.result - c.args.middle) in
+    omega (arith, size, long, right, l.self.found.ok.0)
+
+pub push_found-requires-clause-can : goal.push_found-requires-clause-can
+push_found-requires-clause-can c =
+    let l = c.loop-i in
+    let old = c.args.self.now in
+    let now = l.self in
+    let a = c.index-a.result.now in
+    let b = c.index-b.result.now in
+    let size = length-map old.found.items (λ (a : ElementId). a.0) in
+    let long = still_long now.found.items (numbers_of old.found.items) l.invariant.adding.below in
+    let left = min-le_left (c.args.middle - c.args.from) (c.len-top.result - c.args.middle) in
+    let right = min-le_right (c.args.middle - c.args.from) (c.len-top.result - c.args.middle) in
+    let first : c.args.from + l.i < length now.found.items = omega (arith, size, long, left) in
+    let second : c.args.middle + l.i < length now.found.items = omega (arith, size, long, right) in
+    let later : old.next ≤ now.next = omega (arith, l.invariant.next) in
+    let a_below : a.0 < now.next =
+    subst (λ (x : ElementId). x.0 < now.next) (sym c.index-a.ensures)
+    (now.found_within (c.args.from + l.i) a first) in
+    let b_below : b.0 < now.next =
+    subst (λ (x : ElementId). x.0 < now.next) (sym c.index-b.ensures)
+    (now.found_within (c.args.middle + l.i) b second) in
+    record {
+      room = omega (arith, l.invariant.next, c.requires.room);
+      operands =
+          c.on-operation.ensures.below now.next
+          (pair_later old.next now.next c.args.operator c.requires.operator later) a_below b_below;
+    }
+
+pub remove-requires-clause-to : goal.remove-requires-clause-to
+remove-requires-clause-to c =
+    let l = c.loop-i in
+    let old = c.args.self.now in
+    let size = length-map old.found.items (λ (a : ElementId). a.0) in
+    let long = still_long l.self.found.items (numbers_of old.found.items)
+    l.invariant.adding.below in
+    omega (arith, size, long, c.len-top.ensures)
 
 pub loop-i-preserved : goal.loop-i-preserved
 loop-i-preserved c =
