@@ -1,7 +1,7 @@
 -- Pieces that are read behind others, and the result for the rest of a text.
 use Rattle.std.proofs.Common.{ℕ, ◌≡◌, ◌<◌, List, [], ◌∷◌, ◌++◌, Result, Ok, Err, true, false, take, drop}
 use Rattle.std.proofs.Common.{length, refl, sym, ap, ◌∙◌, subst, append_assoc, inl, inr, ⊎_elim}
-use Rattle.std.proofs.Common.{arith, IfErr, IfSome, OnOk}
+use Rattle.std.proofs.Common.{arith, IfSome}
 use Rattle.std.proofs.lemmas.List.{append-nil, drop_all}
 use Rattle.csv.specs.Reading.{default_config, records}
 use Rattle.lb_static.specs.Signature.{Elements}
@@ -28,9 +28,10 @@ use Rattle.lb_report.specs.JudgedParts.{HasRoll, IsHalt, IsJudgedPart, IsMoreRea
 use Rattle.lb_report.specs.JudgedParts.{IsPartRead}
 use Rattle.lb_report.specs.JudgedParts.{IsOutOfMemory, IsPiecesJudged, IsReadOn, IsReading, IsState}
 use Rattle.lb_report.specs.JudgedParts.{IsReadingOf, IsRestDone, IsRestHalted, IsRestRead, IsSpent}
-use Rattle.lb_report.specs.Pieces.{AreAdded, BeginsWith, IsAllRead, IsCut, IsCutAt, IsFrontRead}
-use Rattle.lb_report.specs.Pieces.{IsReadToCut, IsReadToLine, IsReadToQuote, IsRoundRead}
-use Rattle.lb_report.specs.Pieces.{IsSoundCut}
+use Rattle.lb_report.specs.Pieces.{AreAdded, BeginsWith, IsAllRead, IsCut, IsCutAt, IsFilling}
+use Rattle.lb_report.specs.Pieces.{IsFrontRead, IsReadToCut, IsReadToLine, IsReadToQuote}
+use Rattle.lb_report.specs.Pieces.{IsRoundRead, IsSoundCut}
+use Rattle.lb_report.specs.Turns.{IsTurn}
 use Rattle.lb_report.specs.Windows.{HasRead, HasTaken, IsWindow, Left, text_in}
 use Rattle.lb_report.specs.declared.pieces.Cut.{Cut}
 use Rattle.lb_report.specs.declared.pieces.Cut.TheVariants as cut
@@ -180,6 +181,12 @@ cut_sound elements w s rest (cut.Load e) is = tt
 cut_sound elements w s rest (cut.Refused e) is = tt
 cut_sound elements w s rest (cut.Stopped line) is = tt
 cut_sound elements w s rest cut.Quoted is = absurd is
+
+-- a reading that can go on can do so behind what was read before, where the feed did not fail
+pub on_behind : (elements : Elements) (w : Window) (x y z : Left) (r : Reading)
+    → y.failures ≡ x.failures → IsReadOn elements w y z r → IsReadOn elements w x z r
+on_behind elements w x y z (reading.Quoted s) same on = (on.0, on.1, on.2 ∙ same)
+on_behind elements w x y z (reading.Halted h) same on = on
 
 spent_roll : (h : Halt) → IsSpent h → HasRoll h
 spent_roll h spent = subst HasRoll (sym spent.1) tt
@@ -423,15 +430,30 @@ module _ (p : FlatProgram) (elements : Elements) (table : ColumnTable) where
   -- where memory runs out while a round is read, the rest is not judged
   pub memory_reading : (rows : List Record) (a b : Window) (x y : Left) (r s : RoundReader)
       (read : Result (Unit {0}) Cut) (h : Halt)
-      → OnOk read (IsRoundRead table a b x y r s) → IfErr read (IsCut elements table a b x y r s)
+      → IsFilling elements table a b x y r s read
       → IsOutOfMemory read h → IsRestHalted elements table rows a b x y h
-  memory_reading rows a b x y r s (Ok u) h is none found =
-      spent_halted rows a b x y h (pieces_text a b x y is.more is.pieces) found
-  memory_reading rows a b x y r s (Err (cut.Load e)) h none is found =
+  memory_reading rows a b x y r s (Ok u) h is found =
+      spent_halted rows a b x y h (pieces_text a b x y is.read.more is.read.pieces) found
+  memory_reading rows a b x y r s (Err (cut.Load e)) h is found =
       subst (IsRestHalted elements table rows a b x y) (sym found) is.read
-  memory_reading rows a b x y r s (Err (cut.Refused e)) h none is found =
+  memory_reading rows a b x y r s (Err (cut.Refused e)) h is found =
       spent_halted rows a b x y h is.read.0 found
-  memory_reading rows a b x y r s (Err (cut.Stopped line)) h none is found =
+  memory_reading rows a b x y r s (Err (cut.Stopped line)) h is found =
       spent_halted rows a b x y h is.read.read found
-  memory_reading rows a b x y r s (Err cut.Quoted) h none is found =
+  memory_reading rows a b x y r s (Err cut.Quoted) h is found =
       spent_halted rows a b x y h is.read.front.read found
+
+  -- a turn behind a state that goes on from `s` is one behind `s`
+  pub turn_behind : (a b : Window) (x y : Left) (s t : State) (r : Result State Reading)
+      → ((rows : List Record) → IsPartRead p elements table rows s
+      → IsPartRead p elements table rows t)
+      → IsTurn p elements table a b x y t r → IsTurn p elements table a b x y s r
+  turn_behind a b x y s t (Ok next) part is = record {
+    window = is.window;
+    state = is.state;
+    read = λ rows at. is.read rows (part rows at);
+    failures = is.failures;
+    goes = is.goes;
+  }
+  turn_behind a b x y s t (Err reading) part is =
+      record { why = λ rows at. is.why rows (part rows at); on = is.on }

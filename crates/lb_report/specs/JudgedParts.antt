@@ -99,6 +99,24 @@ IsHalt elements table rows (halt.Stopped judged line) =
     IsStopped elements table rows judged.roll line.items
 IsHalt elements table rows halt.Quoted = Unit {0}
 
+-- what `s` has read, `next` has read too
+abbrev pub KeepsPart : FlatProgram → Elements → (s next : State) → Type 0
+KeepsPart p elements s next =
+    (table : ColumnTable) → (rows : List Record) → IsPartRead p elements table rows s
+    → IsPartRead p elements table rows next
+
+-- what `s` has read is judged
+abbrev pub JudgesPart : FlatProgram → Elements → State → Judged → Type 0
+JudgesPart p elements s j =
+    (table : ColumnTable) → (rows : List Record) → IsPartRead p elements table rows s
+    → IsJudgedPart p elements table rows j
+
+-- `h` says why what `s` has read is not judged
+abbrev pub HaltsPart : FlatProgram → Elements → State → Halt → Type 0
+HaltsPart p elements s h =
+    (table : ColumnTable) → (rows : List Record) → IsPartRead p elements table rows s
+    → IsHalt elements table rows h
+
 -- the names that a halt keeps are a roll
 abbrev pub HasRoll : Halt → Type 0
 HasRoll (halt.Load e) = Unit {0}
@@ -182,6 +200,22 @@ IsRestHalted elements table rows before after old new (halt.Stopped judged line)
     HasHalted elements table rows before after old new (halt.Stopped judged line)
 IsRestHalted elements table rows before after old new halt.Quoted =
     HasHalted elements table rows before after old new halt.Quoted
+
+-- all that a window and its feed had left is judged behind what `s` has read
+abbrev pub JudgesRest :
+    FlatProgram → Elements → ColumnTable → (before after : Window) → (old new : Left) → State
+    → Judged → Type 0
+JudgesRest p elements table before after old new s j =
+    (rows : List Record) → IsPartRead p elements table rows s
+    → IsRestJudged p elements table rows before after old new j
+
+-- `h` says why that rest is not judged to its end
+abbrev pub HaltsRest :
+    FlatProgram → Elements → ColumnTable → (before after : Window) → (old new : Left) → State
+    → Halt → Type 0
+HaltsRest p elements table before after old new s h =
+    (rows : List Record) → IsPartRead p elements table rows s
+    → IsRestHalted elements table rows before after old new h
 
 -- why the pieces of the rest behind `rows` were not judged to its end
 abbrev pub IsReading :

@@ -10,6 +10,7 @@ pub mod Feeds
 pub mod Windows
 pub mod Pieces
 pub mod JudgedParts
+pub mod Turns
 pub mod FeedAnswers
 pub mod FeedJudging
 pub mod SectionEnds

@@ -1,6 +1,7 @@
 -- Pieces of whole traces that are read of a feed, and added to a round.
 -- This file says what data of the program mean; no definition of the language stands on it.
-use Rattle.std.specs.Prelude.{ℕ, ◌≡◌, ◌⊎◌, List, [], ◌∷◌, ◌++◌, Bool, false, true, Ok}
+use Rattle.std.specs.Prelude.{ℕ, ◌≡◌, ◌⊎◌, List, [], ◌∷◌, ◌++◌, Bool, false, true, Result}
+use Rattle.std.specs.Prelude.{Ok, Err}
 use Rattle.csv.specs.Reading.{default_config, records}
 use Rattle.lb_static.specs.Signature.{Elements}
 use Rattle.lb_trace.specs.declared.round.RoundReader.{RoundReader}
@@ -13,7 +14,7 @@ use Rattle.lb_trace.specs.Refusals.{with_records}
 use Rattle.lb_trace.specs.Spelling.{Record}
 use Rattle.lb_trace.specs.Tables.{columns_in}
 use Rattle.lb_trace.specs.Texts.{IsFront}
-use Rattle.lb_report.specs.Windows.{HasRead, IsLoadFault, IsWindow, Left, text_in}
+use Rattle.lb_report.specs.Windows.{GoesOn, HasRead, IsLoadFault, IsWindow, Left, text_in}
 use Rattle.lb_report.specs.declared.pieces.Cut.{Cut}
 use Rattle.lb_report.specs.declared.pieces.Cut.TheVariants as cut
 use Rattle.lb_report.specs.declared.window.Window.{Window}
@@ -120,3 +121,23 @@ IsCutAt rest (cut.Load e) = ⊥
 IsCutAt rest (cut.Refused e) = error_number e ≡ 0
 IsCutAt rest (cut.Stopped line) = record_of line.items ≡ record_of rest
 IsCutAt rest cut.Quoted = ⊥
+
+-- ## What a reading comes to
+
+-- pieces have been read into the round `r`, which gave `s`, and nothing cut the reading
+pub record IsFilled (elements : Elements) (table : ColumnTable) (before after : Window)
+    (old new : Left) (r s : RoundReader)
+    : Type 0 where
+  pub window : IsWindow after
+  pub round : IsOpenRound elements s
+  pub read : IsRoundRead table before after old new r s
+  pub goes : GoesOn before after
+
+-- pieces have been read into the round `r`, which gave `s`, up to the end of them or to a cut
+abbrev pub IsFilling :
+    Elements → ColumnTable → (before after : Window) → (old new : Left) → (r s : RoundReader)
+    → Result (Unit {0}) Cut → Type 0
+IsFilling elements table before after old new r s (Ok x) =
+    IsFilled elements table before after old new r s
+IsFilling elements table before after old new r s (Err c) =
+    IsCut elements table before after old new r s c

@@ -34,6 +34,11 @@ bytes_left w = (INPUT_LIMIT - w.read) + (w.end - w.start)
 abbrev pub turns_left : Window → ℕ
 turns_left w = bytes_left w + (if w.is_over then 0 else 1)
 
+-- a reader has dropped or read some bytes, or found the end, unless nothing was left
+abbrev pub GoesOn : (before after : Window) → Type 0
+GoesOn before after =
+    (turns_left after < turns_left before) ⊎ ((before.is_over ≡ true) × (text_in before ≡ []))
+
 -- the state of a feed: the bytes that it has still to give, where it tells them, how many it has
 -- given and how often it has failed
 pub record Left : Type 0 where

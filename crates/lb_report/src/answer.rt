@@ -9,24 +9,21 @@
 //! ```
 
 ghost use Rattle.std.specs.Prelude.{◌<◌, IfOk, IfErr, length};
-ghost use Rattle.lb_syntax.specs.Correct.{IsOnlyProgram};
-ghost use Rattle.lb_syntax.specs.SourceView.{view_source};
 ghost use Rattle.lb_syntax.specs.Tokens.{Text};
-ghost use Rattle.lb_report.specs.Bench.{IsRefused, OnlyProgram, program_of};
+ghost use Rattle.lb_report.specs.Bench.{IsRefused, OnlyProgram};
 ghost use Rattle.lb_report.specs.Cases.{parts_of};
 ghost use Rattle.lb_report.specs.Correct.{IsBenchAnswer};
 ghost use Rattle.lb_report.specs.AcceptedPrograms.{IsAcceptedProgram};
 
 use crate::case::split_case;
 use crate::feeding::{FeedFault, MOST_BYTES, Sizes, bench_feed, too_long};
+use crate::program::Program;
 use crate::sections::TextFeed;
-use lb_check::check;
-use lb_expand::{expand, with_places};
-use lb_flat::{Ordered, order};
+use lb_flat::Ordered;
 use lb_pool::Report;
 use lb_refusal::{BenchError, Options};
-use lb_static::{Signature, elaborate};
-use lb_syntax::{Source, parse};
+use lb_static::Signature;
+use lb_syntax::parse;
 use std::alloc::Global;
 use std::thread::Threads;
 
@@ -35,29 +32,6 @@ use std::thread::Threads;
 pub(crate) struct AcceptedProgram {
     pub(crate) signature: Signature,
     pub(crate) ordered: Ordered,
-}
-
-/// The program of a tree, ready to run.
-fn accept_tree(
-    alloc: Global,
-    tree: &Source,
-    options: &Options,
-) -> Result<AcceptedProgram, BenchError>
-    ensures ok { IfOk result (λ p.
-        IsAcceptedProgram p (program_of (view_source tree.now) options.now)) }
-    ensures err { (source traces : Text) → IsOnlyProgram (view_source tree.now) source →
-        IfErr result (IsRefused source traces options.now) }
-{
-    let elab = elaborate(alloc, tree, options.node.as_str(), options.observer_name())?;
-    let checked = check(alloc, elab)?;
-    let flat = expand(alloc, &checked)?;
-    match order(alloc, flat) {
-        Ok(ordered) => Ok(AcceptedProgram {
-            signature: checked.into_signature(),
-            ordered,
-        }),
-        Err(cause) => Err(BenchError::Order(with_places(alloc, &checked, cause))),
-    }
 }
 
 /// The program that a source spells, ready to run.
@@ -71,7 +45,11 @@ pub(crate) fn accept(
         (traces : Text) → IsRefused source.now traces options.now e) }
 {
     let tree = parse(alloc, source)?;
-    accept_tree(alloc, &tree, options)
+    let Program { checked, ordered } = Program::of_tree(alloc, &tree, options)?;
+    Ok(AcceptedProgram {
+        signature: checked.into_signature(),
+        ordered,
+    })
 }
 
 /// The refusal of a source and a trace text that has too many bytes.

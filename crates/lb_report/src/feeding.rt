@@ -55,7 +55,7 @@ impl Sizes {
             round: match workers {
                 1 => 16 << 20,
                 2 => 9 << 20,
-                3 => 6 << 20,
+                3 => 23 << 18,
                 _ => 19 << 18,
             },
             shared: match workers {

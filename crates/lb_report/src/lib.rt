@@ -11,6 +11,7 @@ mod laws;
 mod live;
 mod pieces;
 mod placed;
+mod program;
 mod quoted;
 mod rounds;
 mod sections;
@@ -29,3 +30,4 @@ pub use lb_pool::{
 pub use lb_refusal::{BenchError, Options, word};
 pub use live::{FollowFault, follow, follow_file};
 pub use placed::{FilePlaces, PlacedFile, TextPlaces};
+pub use program::Program;

@@ -38,14 +38,13 @@ impl From<LoadError> for Cut {
 }
 
 impl Rounds<'_, '_> {
-    ghost use Rattle.std.specs.Prelude.{◌⊎◌, [], false, true, length, take, IfErr, IfOk, OnOk};
+    ghost use Rattle.std.specs.Prelude.{false, true, length, take, IfErr, IfOk, OnOk};
     ghost use Rattle.csv.specs.Reading.{strip_bom};
     ghost use Rattle.lb_trace.specs.Chunks.{is_ended};
     ghost use Rattle.lb_trace.specs.Plain.{plain_records};
     ghost use Rattle.lb_trace.specs.Tables.{IsColumnTable};
-    ghost use Rattle.lb_report.specs.Pieces.{IsCut, IsCutAt, IsOpenRound, IsRoundRead};
+    ghost use Rattle.lb_report.specs.Pieces.{IsCutAt, IsFilling, IsOpenRound};
     ghost use Rattle.lb_report.specs.Windows.{HasTaken, IsLoadFault, IsWindow, left, text_in};
-    ghost use Rattle.lb_report.specs.Windows.{turns_left};
 
     /// Reads until the window begins with whole lines and one of them is not empty, or the feed is
     /// over. Returns how many bytes these lines have, or all bytes of the window where the feed is
@@ -122,19 +121,10 @@ impl Rounds<'_, '_> {
         requires failures { F.failures feed.old < u64.MAX }
         requires table { IsColumnTable self.now.signature.now table.now }
         requires round { IsOpenRound self.now.signature.now round.old }
-        ensures window { OnOk result (IsWindow window.new) }
-        ensures round { OnOk result (IsOpenRound self.now.signature.now round.new) }
-        ensures ok { OnOk result (IsRoundRead table.now window.old window.new
+        ensures { IsFilling self.now.signature.now table.now window.old window.new
             (left (F.coming feed.old) (F.given feed.old) (F.failures feed.old))
             (left (F.coming feed.new) (F.given feed.new) (F.failures feed.new))
-            round.old round.new) }
-        ensures goes { OnOk result ((turns_left window.new < turns_left window.old)
-            ⊎ ((window.old.is_over ≡ true) × (text_in window.old ≡ []))) }
-        ensures err { IfErr result (IsCut self.now.signature.now table.now
-            window.old window.new
-            (left (F.coming feed.old) (F.given feed.old) (F.failures feed.old))
-            (left (F.coming feed.new) (F.given feed.new) (F.failures feed.new))
-            round.old round.new) }
+            round.old round.new result }
     {
         let count = self.next_piece(feed, window)?;
         let text = &window.text()[..count];
@@ -174,22 +164,13 @@ impl Rounds<'_, '_> {
         requires failures { F.failures feed.old < u64.MAX }
         requires table { IsColumnTable self.now.signature.now table.now }
         requires round { IsOpenRound self.now.signature.now round.old }
-        ensures window { OnOk result (IsWindow window.new) }
-        ensures round { OnOk result (IsOpenRound self.now.signature.now round.new) }
-        ensures ok { OnOk result (IsRoundRead table.now window.old window.new
+        ensures { IsFilling self.now.signature.now table.now window.old window.new
             (left (F.coming feed.old) (F.given feed.old) (F.failures feed.old))
             (left (F.coming feed.new) (F.given feed.new) (F.failures feed.new))
-            round.old round.new) }
-        ensures goes { OnOk result ((turns_left window.new < turns_left window.old)
-            ⊎ ((window.old.is_over ≡ true) × (text_in window.old ≡ []))) }
-        ensures err { IfErr result (IsCut self.now.signature.now table.now
-            window.old window.new
-            (left (F.coming feed.old) (F.given feed.old) (F.failures feed.old))
-            (left (F.coming feed.new) (F.given feed.new) (F.failures feed.new))
-            round.old round.new) }
+            round.old round.new result }
     {
         self.read_piece(feed, window, table, round)?;
-        'pieces: while !window.is_done() && !self.is_full(round) {
+        'pieces: while !window.is_done() && !self.is_full(round, self.bytes_beside(window)) {
             self.read_piece(feed, window, table, round)?;
         }
         Ok(())

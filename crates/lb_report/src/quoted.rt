@@ -18,11 +18,10 @@ impl Rounds<'_, '_> {
     ghost use Rattle.lb_trace.specs.Rolls.{IsRoll};
     ghost use Rattle.lb_trace.specs.Spelling.{Record};
     ghost use Rattle.lb_trace.specs.Tables.{IsColumnTable};
-    ghost use Rattle.lb_trace.specs.declared.table.ColumnTable.{ColumnTable as Table};
-    ghost use Rattle.lb_report.specs.JudgedParts.{HasHaltedAt, HasRoll, IsHalt, IsJudgedFrom};
-    ghost use Rattle.lb_report.specs.JudgedParts.{IsPartRead, IsRestHalted, IsRestJudged};
+    ghost use Rattle.lb_report.specs.JudgedParts.{HaltsPart, HaltsRest, HasHaltedAt, HasRoll};
+    ghost use Rattle.lb_report.specs.JudgedParts.{IsHalt, IsJudgedFrom, IsPartRead};
     ghost use Rattle.lb_report.specs.JudgedParts.{IsRestRefused, IsState, IsTextJudged};
-    ghost use Rattle.lb_report.specs.JudgedParts.{IsTextRefused};
+    ghost use Rattle.lb_report.specs.JudgedParts.{IsTextRefused, JudgesRest, KeepsPart};
     ghost use Rattle.lb_report.specs.QuotedTexts.{IsWholeJudged, IsWholeRefused};
     ghost use Rattle.lb_report.specs.Windows.{IsWindow, left};
 
@@ -70,13 +69,11 @@ impl Rounds<'_, '_> {
         requires table { IsColumnTable self.now.signature.now table.now }
         requires state { IsState self.now.signature.now begun }
         ensures window { OnOk result (IsWindow window.new) }
-        ensures ok { IfOk result (λ judged. (rows : List Record)
-            → IsPartRead self.now.runner.program.now.program.now self.now.signature.now table.now
-            rows begun
-            → IsRestJudged self.now.runner.program.now.program.now self.now.signature.now table.now
-            rows window.old window.new
+        ensures ok { IfOk result
+            (JudgesRest self.now.runner.program.now.program.now self.now.signature.now table.now
+            window.old window.new
             (left (F.coming feed.old) (F.given feed.old) (F.failures feed.old))
-            (left (F.coming feed.new) (F.given feed.new) (F.failures feed.new)) judged) }
+            (left (F.coming feed.new) (F.given feed.new) (F.failures feed.new)) begun) }
         ensures err { IfErr result (λ halt. (rows : List Record)
             → IsPartRead self.now.runner.program.now.program.now self.now.signature.now table.now
             rows begun
@@ -104,19 +101,16 @@ impl Rounds<'_, '_> {
         requires table { IsColumnTable self.now.signature.now table.now }
         requires state { IsState self.now.signature.now begun }
         ensures window { OnOk result (IsWindow window.new) }
-        ensures ok { IfOk result (λ judged. (rows : List Record)
-            → IsPartRead self.now.runner.program.now.program.now self.now.signature.now table.now
-            rows begun
-            → IsRestJudged self.now.runner.program.now.program.now self.now.signature.now table.now
-            rows window.old window.new
+        ensures ok { IfOk result
+            (JudgesRest self.now.runner.program.now.program.now self.now.signature.now table.now
+            window.old window.new
             (left (F.coming feed.old) (F.given feed.old) (F.failures feed.old))
-            (left (F.coming feed.new) (F.given feed.new) (F.failures feed.new)) judged) }
-        ensures err { IfErr result (λ halt. (rows : List Record)
-            → IsPartRead self.now.runner.program.now.program.now self.now.signature.now table.now
-            rows begun
-            → IsRestHalted self.now.signature.now table.now rows window.old window.new
+            (left (F.coming feed.new) (F.given feed.new) (F.failures feed.new)) begun) }
+        ensures err { IfErr result
+            (HaltsRest self.now.runner.program.now.program.now self.now.signature.now table.now
+            window.old window.new
             (left (F.coming feed.old) (F.given feed.old) (F.failures feed.old))
-            (left (F.coming feed.new) (F.given feed.new) (F.failures feed.new)) halt) }
+            (left (F.coming feed.new) (F.given feed.new) (F.failures feed.new)) begun) }
         ensures kept { IfErr result HasRoll }
     {
         match self.judge_pieces(rt, feed, window, table, begun) {
@@ -186,19 +180,16 @@ impl Rounds<'_, '_> {
         requires table { IsColumnTable self.now.signature.now table.now }
         requires state { IsState self.now.signature.now state }
         ensures window { OnOk result (IsWindow window.new) }
-        ensures ok { IfOk result (λ judged. (rows : List Record)
-            → IsPartRead self.now.runner.program.now.program.now self.now.signature.now table.now
-            rows state
-            → IsRestJudged self.now.runner.program.now.program.now self.now.signature.now table.now
-            rows window.old window.new
+        ensures ok { IfOk result
+            (JudgesRest self.now.runner.program.now.program.now self.now.signature.now table.now
+            window.old window.new
             (left (F.coming feed.old) (F.given feed.old) (F.failures feed.old))
-            (left (F.coming feed.new) (F.given feed.new) (F.failures feed.new)) judged) }
-        ensures err { IfErr result (λ halt. (rows : List Record)
-            → IsPartRead self.now.runner.program.now.program.now self.now.signature.now table.now
-            rows state
-            → IsRestHalted self.now.signature.now table.now rows window.old window.new
+            (left (F.coming feed.new) (F.given feed.new) (F.failures feed.new)) state) }
+        ensures err { IfErr result
+            (HaltsRest self.now.runner.program.now.program.now self.now.signature.now table.now
+            window.old window.new
             (left (F.coming feed.old) (F.given feed.old) (F.failures feed.old))
-            (left (F.coming feed.new) (F.given feed.new) (F.failures feed.new)) halt) }
+            (left (F.coming feed.new) (F.given feed.new) (F.failures feed.new)) state) }
         ensures kept { IfErr result HasRoll }
     {
         window.fill_all(feed)?;
@@ -307,15 +298,10 @@ impl Rounds<'_, '_> {
     ) -> Result<State, Halt>
         requires { IsState self.now.signature.now state }
         ensures state { IfOk result (IsState self.now.signature.now) }
-        ensures ok { IfOk result (λ next. (table : Table) → (rows : List Record)
-            → IsPartRead self.now.runner.program.now.program.now self.now.signature.now table
-            rows state
-            → IsPartRead self.now.runner.program.now.program.now self.now.signature.now table
-            rows next) }
-        ensures err { IfErr result (λ halt. (table : Table) → (rows : List Record)
-            → IsPartRead self.now.runner.program.now.program.now self.now.signature.now table
-            rows state
-            → IsHalt self.now.signature.now table rows halt) }
+        ensures ok { IfOk result
+            (KeepsPart self.now.runner.program.now.program.now self.now.signature.now state) }
+        ensures err { IfErr result
+            (HaltsPart self.now.runner.program.now.program.now self.now.signature.now state) }
         ensures kept { IfErr result HasRoll }
     {
         if state.round.goes_on(entry) {

@@ -198,10 +198,10 @@ impl Rounds<'_, '_> {
     ghost use Rattle.lb_trace.specs.Spelling.{Record};
     ghost use Rattle.lb_trace.specs.Tables.{IsColumnTable};
     ghost use Rattle.lb_trace.specs.declared.table.ColumnTable.{ColumnTable as Table};
-    ghost use Rattle.lb_report.specs.JudgedParts.{HasRoll, IsHalt, IsHeadHalted, IsHeadRead};
-    ghost use Rattle.lb_report.specs.JudgedParts.{IsJudgedPart, IsLastHalt, IsNamed, IsPartRead};
-    ghost use Rattle.lb_report.specs.JudgedParts.{IsPiecesJudged, IsReading, IsReadOn, IsState};
-    ghost use Rattle.lb_report.specs.JudgedParts.{RefusesNames};
+    ghost use Rattle.lb_report.specs.JudgedParts.{HaltsPart, HasRoll, IsHalt, IsHeadHalted};
+    ghost use Rattle.lb_report.specs.JudgedParts.{IsHeadRead, IsJudgedPart, IsLastHalt, IsNamed};
+    ghost use Rattle.lb_report.specs.JudgedParts.{IsPartRead, IsPiecesJudged, IsReading, IsReadOn};
+    ghost use Rattle.lb_report.specs.JudgedParts.{IsState, JudgesPart, KeepsPart, RefusesNames};
     ghost use Rattle.lb_report.specs.declared.rounds.Halt.TheVariants.{Load};
     ghost use Rattle.lb_report.specs.declared.feed.LoadError.{LoadError};
     ghost use Rattle.lb_report.specs.Sections.{IsSetAside};
@@ -244,10 +244,18 @@ impl Rounds<'_, '_> {
         self.begin_with(Judged::new(self.alloc, self.signature)?)
     }
 
-    /// Whether a round has enough traces to be run.
-    pub(crate) fn is_full(&self, round: &RoundReader) -> bool {
+    /// How many bytes of rows a round has, about, beside a window: fewer, where a long trace has
+    /// made the window longer.
+    pub(crate) fn bytes_beside(&self, window: &Window) -> usize {
+        self.bytes
+            .saturating_sub(window.size().saturating_sub(self.window))
+    }
+
+    /// Whether a round has enough traces to be run: it has `bytes` bytes of rows, or many instants
+    /// or traces.
+    pub(crate) fn is_full(&self, round: &RoundReader, bytes: usize) -> bool {
         let set = round.set();
-        set.instants() >= self.instants || set.bytes() >= self.bytes || set.len() >= MOST_TRACES
+        set.instants() >= self.instants || set.bytes() >= bytes || set.len() >= MOST_TRACES
     }
 
     /// The verdicts of the traces of a round, in their order, by several workers.
@@ -299,18 +307,14 @@ impl Rounds<'_, '_> {
     fn settle<R: Threads + Sync>(&self, rt: &R, state: State) -> Result<State, Halt>
         requires { IsState self.now.signature.now state }
         ensures roll { IfOk result (λ next. IsRoll next.judged.roll) }
-        ensures ok { IfOk result (λ next. (table : Table) → (rows : List Record)
-            → IsPartRead self.now.runner.program.now.program.now self.now.signature.now table
-            rows state
-            → IsJudgedPart self.now.runner.program.now.program.now self.now.signature.now table
-            rows next.judged) }
+        ensures ok { IfOk result (λ next.
+            JudgesPart self.now.runner.program.now.program.now self.now.signature.now state
+            next.judged) }
         ensures round { IfOk result (λ next.
             next.round.recorder.rows.signature ≡ self.now.signature.now) }
         ensures spare { IfOk result (λ next. next.spare ≡ state.spare) }
-        ensures err { IfErr result (λ halt. (table : Table) → (rows : List Record)
-            → IsPartRead self.now.runner.program.now.program.now self.now.signature.now table
-            rows state
-            → IsHalt self.now.signature.now table rows halt) }
+        ensures err { IfErr result
+            (HaltsPart self.now.runner.program.now.program.now self.now.signature.now state) }
         ensures kept { IfErr result HasRoll }
     {
         let State {
@@ -336,15 +340,10 @@ impl Rounds<'_, '_> {
     pub(crate) fn next_round<R: Threads + Sync>(&self, rt: &R, state: State) -> Result<State, Halt>
         requires { IsState self.now.signature.now state }
         ensures state { IfOk result (IsState self.now.signature.now) }
-        ensures ok { IfOk result (λ next. (table : Table) → (rows : List Record)
-            → IsPartRead self.now.runner.program.now.program.now self.now.signature.now table
-            rows state
-            → IsPartRead self.now.runner.program.now.program.now self.now.signature.now table
-            rows next) }
-        ensures err { IfErr result (λ halt. (table : Table) → (rows : List Record)
-            → IsPartRead self.now.runner.program.now.program.now self.now.signature.now table
-            rows state
-            → IsHalt self.now.signature.now table rows halt) }
+        ensures ok { IfOk result
+            (KeepsPart self.now.runner.program.now.program.now self.now.signature.now state) }
+        ensures err { IfErr result
+            (HaltsPart self.now.runner.program.now.program.now self.now.signature.now state) }
         ensures kept { IfErr result HasRoll }
     {
         let mut next = self.settle(rt, state)?;
@@ -356,18 +355,13 @@ impl Rounds<'_, '_> {
     pub(crate) fn with_room<R: Threads + Sync>(&self, rt: &R, state: State) -> Result<State, Halt>
         requires { IsState self.now.signature.now state }
         ensures state { IfOk result (IsState self.now.signature.now) }
-        ensures ok { IfOk result (λ next. (table : Table) → (rows : List Record)
-            → IsPartRead self.now.runner.program.now.program.now self.now.signature.now table
-            rows state
-            → IsPartRead self.now.runner.program.now.program.now self.now.signature.now table
-            rows next) }
-        ensures err { IfErr result (λ halt. (table : Table) → (rows : List Record)
-            → IsPartRead self.now.runner.program.now.program.now self.now.signature.now table
-            rows state
-            → IsHalt self.now.signature.now table rows halt) }
+        ensures ok { IfOk result
+            (KeepsPart self.now.runner.program.now.program.now self.now.signature.now state) }
+        ensures err { IfErr result
+            (HaltsPart self.now.runner.program.now.program.now self.now.signature.now state) }
         ensures kept { IfErr result HasRoll }
     {
-        if self.is_full(&state.round) {
+        if self.is_full(&state.round, self.bytes) {
             self.next_round(rt, state)
         } else {
             Ok(state)
@@ -378,15 +372,10 @@ impl Rounds<'_, '_> {
     pub(crate) fn last_round<R: Threads + Sync>(&self, rt: &R, state: State) -> Result<Judged, Halt>
         requires { IsState self.now.signature.now state }
         ensures roll { IfOk result (λ judged. IsRoll judged.roll) }
-        ensures ok { IfOk result (λ judged. (table : Table) → (rows : List Record)
-            → IsPartRead self.now.runner.program.now.program.now self.now.signature.now table
-            rows state
-            → IsJudgedPart self.now.runner.program.now.program.now self.now.signature.now table
-            rows judged) }
-        ensures err { IfErr result (λ halt. (table : Table) → (rows : List Record)
-            → IsPartRead self.now.runner.program.now.program.now self.now.signature.now table
-            rows state
-            → IsHalt self.now.signature.now table rows halt) }
+        ensures ok { IfOk result
+            (JudgesPart self.now.runner.program.now.program.now self.now.signature.now state) }
+        ensures err { IfErr result
+            (HaltsPart self.now.runner.program.now.program.now self.now.signature.now state) }
         ensures kept { IfErr result HasRoll }
     {
         let settled = self.settle(rt, state)?;

@@ -25,16 +25,15 @@ fn out_of_memory(read: Result<(), Cut>) -> Halt
 }
 
 impl Rounds<'_, '_> {
-    ghost use Rattle.std.specs.Prelude.{◌⊎◌, [], List, true, IfErr, IfOk, IfSome, OnOk};
+    ghost use Rattle.std.specs.Prelude.{[], IfOk, IfSome};
     ghost use Rattle.lb_trace.specs.RoundReaders.{IsRound};
     ghost use Rattle.lb_trace.specs.Rolls.{IsRoll};
-    ghost use Rattle.lb_trace.specs.Spelling.{Record};
     ghost use Rattle.lb_trace.specs.Tables.{IsColumnTable};
     ghost use Rattle.lb_pool.specs.Correct.{AreVerdicts};
-    ghost use Rattle.lb_report.specs.JudgedParts.{IsMoreRead, IsPartRead, IsReading, IsReadingOf};
-    ghost use Rattle.lb_report.specs.JudgedParts.{IsReadOn, IsState};
-    ghost use Rattle.lb_report.specs.Pieces.{IsCut, IsOpenRound, IsRoundRead};
-    ghost use Rattle.lb_report.specs.Windows.{IsWindow, left, text_in, turns_left};
+    ghost use Rattle.lb_report.specs.JudgedParts.{IsReadingOf, IsState};
+    ghost use Rattle.lb_report.specs.Pieces.{IsFilling, IsOpenRound};
+    ghost use Rattle.lb_report.specs.Turns.{IsTurn};
+    ghost use Rattle.lb_report.specs.Windows.{IsWindow, left};
 
     /// Why a text was not judged to its end, where reading into the round of `state` was cut.
     fn reading_of(&self, state: State, cut: Cut) -> Reading
@@ -62,28 +61,10 @@ impl Rounds<'_, '_> {
         requires failures { F.failures feed.old < u64.MAX }
         requires table { IsColumnTable self.now.signature.now table.now }
         requires state { IsState self.now.signature.now state }
-        ensures window { OnOk result (IsWindow window.new) }
-        ensures state { IfOk result (IsState self.now.signature.now) }
-        ensures ok { IfOk result (λ next. (rows : List Record)
-            → IsPartRead self.now.runner.program.now.program.now self.now.signature.now table.now
-            rows state
-            → IsMoreRead self.now.runner.program.now.program.now self.now.signature.now table.now
-            rows window.old window.new
+        ensures { IsTurn self.now.runner.program.now.program.now self.now.signature.now table.now
+            window.old window.new
             (left (F.coming feed.old) (F.given feed.old) (F.failures feed.old))
-            (left (F.coming feed.new) (F.given feed.new) (F.failures feed.new)) next) }
-        ensures failures { OnOk result (F.failures feed.new ≡ F.failures feed.old) }
-        ensures goes { OnOk result ((turns_left window.new < turns_left window.old)
-            ⊎ ((window.old.is_over ≡ true) × (text_in window.old ≡ []))) }
-        ensures err { IfErr result (λ reading. (rows : List Record)
-            → IsPartRead self.now.runner.program.now.program.now self.now.signature.now table.now
-            rows state
-            → IsReading self.now.runner.program.now.program.now self.now.signature.now table.now
-            rows window.old window.new
-            (left (F.coming feed.old) (F.given feed.old) (F.failures feed.old))
-            (left (F.coming feed.new) (F.given feed.new) (F.failures feed.new)) reading) }
-        ensures on { IfErr result (IsReadOn self.now.signature.now window.new
-            (left (F.coming feed.old) (F.given feed.old) (F.failures feed.old))
-            (left (F.coming feed.new) (F.given feed.new) (F.failures feed.new))) }
+            (left (F.coming feed.new) (F.given feed.new) (F.failures feed.new)) state result }
     {
         let mut next = state;
         match self.read_round(feed, window, table, &mut next.round) {
@@ -123,19 +104,10 @@ impl Rounds<'_, '_> {
         requires round { IsOpenRound self.now.signature.now round.old }
         ensures verdicts { IfOk result.0 (λ verdicts.
             AreVerdicts self.now.runner.program.now.program.now set.now verdicts.items) }
-        ensures window { OnOk result.1 (IsWindow window.new) }
-        ensures round { OnOk result.1 (IsOpenRound self.now.signature.now round.new) }
-        ensures ok { OnOk result.1 (IsRoundRead table.now window.old window.new
+        ensures filling { IsFilling self.now.signature.now table.now window.old window.new
             (left (F.coming feed.old) (F.given feed.old) (F.failures feed.old))
             (left (F.coming feed.new) (F.given feed.new) (F.failures feed.new))
-            round.old round.new) }
-        ensures goes { OnOk result.1 ((turns_left window.new < turns_left window.old)
-            ⊎ ((window.old.is_over ≡ true) × (text_in window.old ≡ []))) }
-        ensures err { IfErr result.1 (IsCut self.now.signature.now table.now
-            window.old window.new
-            (left (F.coming feed.old) (F.given feed.old) (F.failures feed.old))
-            (left (F.coming feed.new) (F.given feed.new) (F.failures feed.new))
-            round.old round.new) }
+            round.old round.new result.1 }
     {
         join_mut(
             rt,
@@ -158,28 +130,10 @@ impl Rounds<'_, '_> {
         requires failures { F.failures feed.old < u64.MAX }
         requires table { IsColumnTable self.now.signature.now table.now }
         requires state { IsState self.now.signature.now state }
-        ensures window { OnOk result (IsWindow window.new) }
-        ensures state { IfOk result (IsState self.now.signature.now) }
-        ensures ok { IfOk result (λ next. (rows : List Record)
-            → IsPartRead self.now.runner.program.now.program.now self.now.signature.now table.now
-            rows state
-            → IsMoreRead self.now.runner.program.now.program.now self.now.signature.now table.now
-            rows window.old window.new
+        ensures { IsTurn self.now.runner.program.now.program.now self.now.signature.now table.now
+            window.old window.new
             (left (F.coming feed.old) (F.given feed.old) (F.failures feed.old))
-            (left (F.coming feed.new) (F.given feed.new) (F.failures feed.new)) next) }
-        ensures failures { OnOk result (F.failures feed.new ≡ F.failures feed.old) }
-        ensures goes { OnOk result ((turns_left window.new < turns_left window.old)
-            ⊎ ((window.old.is_over ≡ true) × (text_in window.old ≡ []))) }
-        ensures err { IfErr result (λ reading. (rows : List Record)
-            → IsPartRead self.now.runner.program.now.program.now self.now.signature.now table.now
-            rows state
-            → IsReading self.now.runner.program.now.program.now self.now.signature.now table.now
-            rows window.old window.new
-            (left (F.coming feed.old) (F.given feed.old) (F.failures feed.old))
-            (left (F.coming feed.new) (F.given feed.new) (F.failures feed.new)) reading) }
-        ensures on { IfErr result (IsReadOn self.now.signature.now window.new
-            (left (F.coming feed.old) (F.given feed.old) (F.failures feed.old))
-            (left (F.coming feed.new) (F.given feed.new) (F.failures feed.new))) }
+            (left (F.coming feed.new) (F.given feed.new) (F.failures feed.new)) state result }
     {
         let State {
             judged,
@@ -220,28 +174,10 @@ impl Rounds<'_, '_> {
         requires failures { F.failures feed.old < u64.MAX }
         requires table { IsColumnTable self.now.signature.now table.now }
         requires state { IsState self.now.signature.now state }
-        ensures window { OnOk result (IsWindow window.new) }
-        ensures state { IfOk result (IsState self.now.signature.now) }
-        ensures ok { IfOk result (λ next. (rows : List Record)
-            → IsPartRead self.now.runner.program.now.program.now self.now.signature.now table.now
-            rows state
-            → IsMoreRead self.now.runner.program.now.program.now self.now.signature.now table.now
-            rows window.old window.new
+        ensures { IsTurn self.now.runner.program.now.program.now self.now.signature.now table.now
+            window.old window.new
             (left (F.coming feed.old) (F.given feed.old) (F.failures feed.old))
-            (left (F.coming feed.new) (F.given feed.new) (F.failures feed.new)) next) }
-        ensures failures { OnOk result (F.failures feed.new ≡ F.failures feed.old) }
-        ensures goes { OnOk result ((turns_left window.new < turns_left window.old)
-            ⊎ ((window.old.is_over ≡ true) × (text_in window.old ≡ []))) }
-        ensures err { IfErr result (λ reading. (rows : List Record)
-            → IsPartRead self.now.runner.program.now.program.now self.now.signature.now table.now
-            rows state
-            → IsReading self.now.runner.program.now.program.now self.now.signature.now table.now
-            rows window.old window.new
-            (left (F.coming feed.old) (F.given feed.old) (F.failures feed.old))
-            (left (F.coming feed.new) (F.given feed.new) (F.failures feed.new)) reading) }
-        ensures on { IfErr result (IsReadOn self.now.signature.now window.new
-            (left (F.coming feed.old) (F.given feed.old) (F.failures feed.old))
-            (left (F.coming feed.new) (F.given feed.new) (F.failures feed.new))) }
+            (left (F.coming feed.new) (F.given feed.new) (F.failures feed.new)) state result }
     {
         if self.workers == 1 {
             let next = self.next_round(rt, state)?;

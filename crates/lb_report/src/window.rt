@@ -42,15 +42,17 @@ impl Window {
     ghost use Rattle.lb_report.specs.Windows.{HasRead, HasTaken, IsLoadFault, IsWindow};
     ghost use Rattle.lb_report.specs.Windows.{IsWithin, left, text_in};
 
-    /// An empty window with room for `size` bytes.
+    /// An empty window with room for `size` bytes. It can grow to eight times that without a copy.
     pub(crate) fn new(alloc: Global, size: usize) -> Result<Window, AllocError>
         ensures window { IfOk result IsWindow }
         ensures empty { IfOk result (λ w. text_in w ≡ []) }
         ensures begun { IfOk result (λ w.
             (w.read ≡ 0) × (w.is_over ≡ false) × (w.is_ended ≡ false)) }
     {
+        let mut bytes = Vec::with_capacity(alloc, size.saturating_mul(8))?;
+        bytes.resize(size, 0)?;
         Ok(Window {
-            bytes: vec![in alloc; 0u8; size]?,
+            bytes,
             start: 0,
             end: 0,
             read: 0,
@@ -93,13 +95,16 @@ impl Window {
     {
         let size = self.bytes.len();
         let count = self.end - self.start;
-        self.bytes
-            .as_mut_slice()
-            .copy_within(self.start..self.end, 0);
+        if self.start > 0 {
+            self.bytes
+                .as_mut_slice()
+                .copy_within(self.start..self.end, 0);
+        }
         self.start = 0;
         self.end = count;
         if count == size {
-            self.bytes.resize(size.saturating_add(size.max(1)), 0)?;
+            self.bytes
+                .resize(size.saturating_add((size / 4).max(1)), 0)?;
         }
         Ok(())
     }
@@ -134,7 +139,7 @@ impl Window {
     }
 
     /// Reads until the window is full or the feed is over. A window that is full already is first
-    /// made twice as large.
+    /// made a quarter larger.
     pub(crate) fn fill<F: Feed>(&mut self, feed: &mut F) -> Result<(), LoadError>
         requires window { IsWindow self.old }
         requires failures { F.failures feed.old < u64.MAX }
@@ -196,6 +201,13 @@ impl Window {
         ensures left { result ≡ false → self.now.is_over ≡ true → 0 < length (text_in self.now) }
     {
         self.is_over && self.start == self.end
+    }
+
+    /// How many bytes the window has room for.
+    pub(crate) fn size(&self) -> usize
+        ensures { result ≡ vec_len self.now.bytes }
+    {
+        self.bytes.len()
     }
 
     /// How many bytes the feed has given.

@@ -7,8 +7,7 @@ ghost use Rattle.lb_syntax.specs.Tokens.{Text};
 ghost use Rattle.lb_report.specs.Bench.{IsRefused, program_of};
 ghost use Rattle.lb_values.specs.Programs.{IsCase};
 
-use crate::program::Program;
-use lb_report::{BenchError, Options};
+use lb_report::{BenchError, Options, Program};
 use lb_syntax::Source;
 use lb_trace::read_traces;
 use lb_traces::TraceSet;

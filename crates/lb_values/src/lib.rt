@@ -2,7 +2,6 @@
 #![tactic(auto)]
 
 mod case;
-mod program;
 mod reasons;
 mod sending;
 mod values;

@@ -4,23 +4,30 @@ use Rattle.lb_report.proofs.PieceReads.{cut_goes_on, cut_reading, part_read}
 use Rattle.lb_report.proofs.PieceTexts.{pieces_text}
 use Rattle.lb_report.proofs.rounds.Rounds.read_on.Goals as goal
 
-pub returns-in-Ok-clause-ok : goal.returns-in-Ok-clause-ok
-returns-in-Ok-clause-ok g c = λ rows part.
-    part_read c.args.self.now.runner.program.now.program.now c.args.self.now.signature.now
-    c.args.table.now rows _ _ _ _ c.args.state _ part refl c.in-Ok.ensures.ok
+pub returns-in-Ok : goal.returns-in-Ok
+returns-in-Ok g c =
+    let filled = c.in-Ok.ensures in
+    let state = c.requires.state in
+    record {
+      window = filled.window;
+      state = record { roll = state.roll; round = filled.round; spare = state.spare };
+      read = λ rows part.
+          part_read c.args.self.now.runner.program.now.program.now c.args.self.now.signature.now
+          c.args.table.now rows _ _ _ _ c.args.state _ part refl filled.read;
+      failures = (pieces_text _ _ _ _ filled.read.more filled.read.pieces).failures;
+      goes = filled.goes;
+    }
 
-pub returns-in-Ok-clause-failures : goal.returns-in-Ok-clause-failures
-returns-in-Ok-clause-failures g c =
-    let is = c.in-Ok.ensures.ok in (pieces_text _ _ _ _ is.more is.pieces).failures
-
-pub returns-in-Err-clause-err : goal.returns-in-Err-clause-err
-returns-in-Err-clause-err g c = λ rows part.
-    cut_reading c.args.self.now.runner.program.now.program.now c.args.self.now.signature.now
-    c.args.table.now rows _ _ _ _ c.args.state _ c.in-Err.cut c.reading_of.result part refl
-    c.in-Err.ensures.err.read c.reading_of.ensures
-
-pub returns-in-Err-clause-on : goal.returns-in-Err-clause-on
-returns-in-Err-clause-on g c =
-    cut_goes_on c.args.self.now.runner.program.now.program.now c.args.self.now.signature.now
-    c.args.table.now _ _ _ _ c.args.state.round _ c.in-Err.cut c.reading_of.result
-    c.in-Err.ensures.err c.requires.state.roll c.requires.state.spare c.reading_of.ensures
+pub returns-in-Err : goal.returns-in-Err
+returns-in-Err g c =
+    let p = c.args.self.now.runner.program.now.program.now in
+    let elements = c.args.self.now.signature.now in
+    let table = c.args.table.now in
+    record {
+      why = λ rows part.
+          cut_reading p elements table rows _ _ _ _ c.args.state _ c.in-Err.cut
+          c.reading_of.result part refl c.in-Err.ensures.read c.reading_of.ensures;
+      on = cut_goes_on p elements table _ _ _ _ c.args.state.round _ c.in-Err.cut
+          c.reading_of.result c.in-Err.ensures c.requires.state.roll c.requires.state.spare
+          c.reading_of.ensures;
+    }

@@ -1,11 +1,25 @@
 -- One piece after the other is read into a round.
-use Rattle.lb_pool.proofs.GoingOut.{passes_on}
-use Rattle.lb_report.specs.Pieces.{IsCut}
+use Rattle.std.proofs.lemmas.Result.{err_from_is_err_and}
 use Rattle.lb_report.specs.Windows.{left}
-use Rattle.lb_report.specs.declared.pieces.Cut.{Cut}
 use Rattle.lb_report.proofs.PieceReads.{cut_on, round_front, round_on}
 use Rattle.lb_report.proofs.PieceTexts.{goes_on, pieces_text}
 use Rattle.lb_report.proofs.rounds.Rounds.read_round.Goals as goal
+
+pub returns-in_err-read_piece : goal.returns-in_err-read_piece
+returns-in_err-read_piece g c =
+    let p = err_from_is_err_and c.from_residual.result c.from_residual.ensures.1 in
+    rw (p.1, p.2) c.in_err-read_piece.ensures
+
+pub pieces-init : goal.pieces-init
+pieces-init g c =
+    let first = c.in_ok-read_piece.ensures in
+    record {
+      window = first.window;
+      round = first.round;
+      failures = (pieces_text _ _ _ _ first.read.more first.read.pieces).failures;
+      read = first.read;
+      goes = first.goes;
+    }
 
 pub pieces-preserved : goal.pieces-preserved
 pieces-preserved g c =
@@ -19,22 +33,22 @@ pieces-preserved g c =
     let b = c.pieces.window in
     let w = c.read_piece-in-pieces.new.window in
     let before = c.pieces.invariant in
-    let read = c.in_ok-read_piece-2.ensures in
+    let next = c.in_ok-read_piece-2.ensures in
     let some = c.is_done.ensures.left c.pieces-test.true in
     let at = round_front c.args.table.now a b old mid c.args.round.now c.pieces.round before.read
     some in
     let all = round_on c.args.table.now a b w old mid new c.args.round.now c.pieces.round
-    c.read_piece-in-pieces.new.round at read.ok in
+    c.read_piece-in-pieces.new.round at next.read in
     record {
-      window = read.window;
-      round = read.round;
+      window = next.window;
+      round = next.round;
       failures = (pieces_text a w old new all.more all.pieces).failures;
       read = all;
-      goes = goes_on a b w before.goes read.goes some;
+      goes = goes_on a b w before.goes next.goes some;
     }
 
-pub returns-in_err-read_piece-2-clause-err : goal.returns-in_err-read_piece-2-clause-err
-returns-in_err-read_piece-2-clause-err g c =
+pub returns-in_err-read_piece-2 : goal.returns-in_err-read_piece-2
+returns-in_err-read_piece-2 g c =
     let f = c.args.feed.now in
     let h = c.pieces.feed in
     let k = c.read_piece-in-pieces.new.feed in
@@ -50,11 +64,15 @@ returns-in_err-read_piece-2-clause-err g c =
     let at = round_front c.args.table.now a b old mid r s c.pieces.invariant.read
     (c.is_done.ensures.left c.pieces-test.true) in
     let e = c.in_err-read_piece-2.field-0.0 in
-    let Is : Cut → Type 0 = IsCut c.args.self.now.signature.now c.args.table.now a w old new r t in
-    passes_on c.from_residual-in_err-read_piece-2.result e Is
-    c.from_residual-in_err-read_piece-2.ensures.1
-    record {
+    let residual = c.from_residual-in_err-read_piece-2 in
+    let p = err_from_is_err_and residual.result residual.ensures.1 in
+    rw (p.1, p.2) (record {
       read = cut_on c.args.table.now a b w old mid new r s t at e
-          c.in_err-read_piece-2.ensures.err.read;
-      sound = c.in_err-read_piece-2.ensures.err.sound;
-    }
+          c.in_err-read_piece-2.ensures.read;
+      sound = c.in_err-read_piece-2.ensures.sound;
+    })
+
+pub returns : goal.returns
+returns g c =
+    let all = c.pieces.invariant in
+    record { window = all.window; round = all.round; read = all.read; goes = all.goes }

@@ -1,6 +1,6 @@
-use Rattle.std.proofs.Common.{◌≡◌, ◌<◌, ◌⊎◌, [], true}
+use Rattle.std.proofs.Common.{◌≡◌}
 use Rattle.lb_report.specs.Pieces.{IsOpenRound, IsRoundRead}
-use Rattle.lb_report.specs.Windows.{IsWindow, left, text_in, turns_left}
+use Rattle.lb_report.specs.Windows.{GoesOn, IsWindow, left, turns_left}
 use Rattle.lb_report.proofs.rounds.Rounds.read_round.Given as goal
 
 abbrev pub invariant-pieces : goal.invariant-pieces
@@ -12,8 +12,7 @@ invariant-pieces g l = record {
       (left (g.F.Feed.coming l.fn.feed) (g.F.Feed.given l.fn.feed) (g.F.Feed.failures l.fn.feed))
       (left (g.F.Feed.coming l.feed) (g.F.Feed.given l.feed) (g.F.Feed.failures l.feed))
       l.fn.round l.round;
-  goes : (turns_left l.window < turns_left l.fn.window)
-      ⊎ ((l.fn.window.is_over ≡ true) × (text_in l.fn.window ≡ []));
+  goes : GoesOn l.fn.window l.window;
 }
 
 -- each turn drops some bytes, or is the last

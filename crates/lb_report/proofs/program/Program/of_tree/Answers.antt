@@ -13,7 +13,7 @@ use Rattle.lb_flat.specs.Programs as flat
 use Rattle.lb_report.specs.Bench.{program_of}
 use Rattle.lb_report.proofs.Refusing.{accepted_is, is_cycle, placed_cycle, same_program}
 use Rattle.lb_report.proofs.Refusing.{too_large}
-use Rattle.lb_values.proofs.program.Program.of_tree.Goals as goal
+use Rattle.lb_report.proofs.program.Program.of_tree.Goals as goal
 
 pub returns-in_err-elab-clause-err : goal.returns-in_err-elab-clause-err
 returns-in_err-elab-clause-err c =

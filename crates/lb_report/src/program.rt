@@ -4,27 +4,28 @@ ghost use Rattle.std.specs.Prelude.{IfOk, IfErr};
 ghost use Rattle.lb_syntax.specs.Correct.{IsOnlyProgram};
 ghost use Rattle.lb_syntax.specs.SourceView.{view_source};
 ghost use Rattle.lb_syntax.specs.Tokens.{Text};
+ghost use Rattle.lb_report.specs.AcceptedPrograms.{IsProgram};
 ghost use Rattle.lb_report.specs.Bench.{IsRefused, program_of};
-ghost use Rattle.lb_values.specs.Programs.{IsProgram};
 
 use lb_check::{Checked, check};
 use lb_expand::{expand, with_places};
 use lb_flat::{Ordered, order};
-use lb_report::{BenchError, Options};
+use lb_refusal::{BenchError, Options};
 use lb_static::elaborate;
 use lb_syntax::Source;
 use std::alloc::Global;
 
 /// A program that keeps all rules, with its equations in order.
 #[derive(Drop)]
-pub(crate) struct Program<'s> {
-    pub(crate) checked: Checked<'s>,
-    pub(crate) ordered: Ordered,
+pub struct Program<'s> {
+    pub checked: Checked<'s>,
+    pub ordered: Ordered,
 }
 
 impl<'s> Program<'s> {
-    /// The program of a tree, with the node under test and the observer that the options name.
-    pub(crate) fn of_tree(
+    /// The program of a tree, with the node under test and the observer that the options name. An
+    /// error is the first refusal of the tree: E4 to E13, or E0 where memory ran out.
+    pub fn of_tree(
         alloc: Global,
         tree: &'s Source,
         options: &'s Options,
