@@ -70,6 +70,14 @@ fn parts_of(label: &str) -> (&str, &str) {
     label.split_once('@').unwrap_or((label, ""))
 }
 
+/// The word of a form that takes one of its sides: `fby`, or else `->`.
+fn arrow_word(term: &Term) -> &'static str {
+    match term {
+        Term::Fby(_, _) => "fby",
+        _ => "->",
+    }
+}
+
 impl<'p, 'a, 's> Telling<'p, 'a, 's> {
     /// Writes a text.
     fn say(&mut self, text: &str) -> Result<(), AllocError> {
@@ -236,25 +244,61 @@ impl<'p, 'a, 's> Telling<'p, 'a, 's> {
         }
     }
 
-    /// Writes what an expression with this operation is.
+    /// Writes how many operands of `#` or `nor` are true: `few` where its value is true, `many`
+    /// where it is false.
+    fn say_count(
+        &mut self,
+        step: Step,
+        site: Site<'a>,
+        operation: Operation,
+        few: &str,
+        many: &str,
+    ) -> Result<(), AllocError> {
+        match step.cell {
+            Cell::Boolean(true) => self.say(few),
+            Cell::Boolean(false) => self.say(many),
+            _ => self.say_whole(site, operation),
+        }
+    }
+
+    /// Writes which side of `->` or `fby` is taken.
+    fn say_taken(&mut self, word: &str, started: bool) -> Result<(), AllocError> {
+        self.say("`")?;
+        self.say(word)?;
+        self.say(if started {
+            "`, its right side is taken"
+        } else {
+            "`, its left side is taken"
+        })
+    }
+
+    /// Writes what the expression of a step with this operation is.
     fn say_term(
         &mut self,
+        step: Step,
         site: Site<'a>,
         operation: Operation,
         next: Option<ElementId>,
     ) -> Result<(), AllocError> {
-        match (site.ungrouped().term, operation) {
-            (Term::AtMostOne(_), _) => self.say("`#`, more than one of its operands is true"),
-            (Term::Nor(_), _) => self.say("`nor`, one of its operands is true"),
+        let term = site.ungrouped().term;
+        match (term, operation) {
+            (Term::AtMostOne(_), _) => self.say_count(
+                step,
+                site,
+                operation,
+                "`#`, at most one of its operands is true",
+                "`#`, more than one of its operands is true",
+            ),
+            (Term::Nor(_), _) => self.say_count(
+                step,
+                site,
+                operation,
+                "`nor`, none of its operands is true",
+                "`nor`, one of its operands is true",
+            ),
             (_, Operation::ApplyBinary(_, _, _)) => self.say_two(site, operation, next),
             (_, Operation::Choose(c, _, _)) => self.say_side("if", "condition", c),
-            (_, Operation::FirstThen(started, _, _)) => {
-                self.say(if started {
-                    "`->`, its right side is taken"
-                } else {
-                    "`->`, its left side is taken"
-                })
-            }
+            (_, Operation::FirstThen(started, _, _)) => self.say_taken(arrow_word(term), started),
             (_, Operation::Previous(_, _) | Operation::Latest(_, _)) => {
                 self.say_expression(ungrouped(site.expr))
             }
@@ -428,13 +472,28 @@ impl<'p, 'a, 's> Telling<'p, 'a, 's> {
         }
     }
 
-    /// Writes a fault in the operand of a memory, with the whole expression in which it stands.
-    fn say_kept(&mut self, steps: &[Step], element: ElementId) -> Result<(), AllocError> {
-        self.say("what a memory keeps, ")?;
-        self.say_operator(element)?;
+    /// Whether an element is an operand that a memory keeps.
+    fn is_kept(&self, element: ElementId) -> bool {
+        for operand in self.subject.program.memory_operands.as_slice() {
+            if *operand == element {
+                return true;
+            }
+        }
+        false
+    }
+
+    /// Writes a fault in the operand of a memory or in an assertion, with the whole expression in
+    /// which it stands.
+    fn say_within(&mut self, steps: &[Step], element: ElementId) -> Result<(), AllocError> {
         let Some(first) = steps.first() else {
             return Ok(());
         };
+        self.say(if self.is_kept(first.element) {
+            "what a memory keeps, "
+        } else {
+            "an assertion, "
+        })?;
+        self.say_operator(element)?;
         let Some((whole, _)) = self.enclosing(first.element)? else {
             return Ok(());
         };
@@ -517,7 +576,7 @@ impl<'p, 'a, 's> Telling<'p, 'a, 's> {
             Operation::Previous(_, _) | Operation::Latest(_, _) => {
                 self.say_memory(recorded, site, step.element, operation)
             }
-            _ => self.say_term(site, operation, next),
+            _ => self.say_term(*step, site, operation, next),
         }
     }
 
@@ -651,7 +710,7 @@ impl<'p, 'a, 's> Telling<'p, 'a, 's> {
         let Known::Expression(site) = self.known_at(last) else {
             return match variable {
                 Some(variable) => self.say_made(variable, step.element),
-                None => self.say_kept(steps, step.element),
+                None => self.say_within(steps, step.element),
             };
         };
         if let Some(variable) = variable {
