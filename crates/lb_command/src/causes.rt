@@ -18,7 +18,7 @@ pub fn explain_name(alloc: Global, unknown: &Unknown) -> Result<Vec<u8>, AllocEr
         page.push_str("help: the report has the names of all traces\n")?;
     } else {
         write!(page, "no variable is named `{name}`\n")?;
-        page.push_str("help: with `--format csv --all --last 1` the names of all variables\n")?;
+        page.push_str("help: `--format csv --all --last 1` prints the names of all variables\n")?;
     }
     page.as_bytes().to_vec(alloc)
 }

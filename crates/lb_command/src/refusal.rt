@@ -89,13 +89,23 @@ fn start_of(line: usize) -> Option<(u32, u32)>
 /// The reason why the program prints no report: the number of a refusal, 0 to 21, and its place, if
 /// it has one: a line and a column of a source (E1 to E3), or of a file that is read as a report
 /// (E17 and E20).
-#[derive(Drop)]
 pub struct Refusal {
     pub number: u8,
     pub position: Option<(u32, u32)>,
     pub cause: Option<Cause>,
     pub ghost known: { number < 22 },
     pub ghost placed: { is_placed number position ≡ true },
+}
+
+// Not derived, so that a caller drops it in one step.
+impl Drop for Refusal {
+    fn drop(self) {
+        let Refusal {
+            number: _,
+            position: _,
+            cause: _,
+        } = self;
+    }
 }
 
 impl Refusal {

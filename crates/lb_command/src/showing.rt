@@ -28,7 +28,7 @@ pub enum ShowingFault {
     Stopped(FollowError),
 }
 
-/// The names in a list that commas part, as `open,level`; empty where there is no list.
+/// The names in a list that commas separate, as `open,level`; empty where there is no list.
 fn listed<'a>(alloc: Global, names: Option<&'a str>) -> Result<Vec<&'a str>, AllocError> {
     let mut listed = Vec::new(alloc);
     if let Some(names) = names {

@@ -13,7 +13,7 @@ use std::alloc::{AllocError, Global};
 fn with_explanations<'a>(alloc: Global, command: Command<'a>) -> Result<Command<'a>, AllocError>
     ensures { IfOk result (λ c. app_of c ≡ spec.with_explanations (app_of command.entry)) }
 {
-    let help = "tells why a text is refused, and why the first 20 traces do not pass";
+    let help = "tells why a text is refused, or why traces do not pass (the first 20)";
     let command = command.arg(switch_argument(alloc, "explain", help))?;
     let help = "the same for all traces that do not pass";
     command.arg(switch_argument(alloc, "explain-all", help))

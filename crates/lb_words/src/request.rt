@@ -133,7 +133,7 @@ fn with_nodes<'a>(alloc: Global, command: Command<'a>) -> Result<Command<'a>, Al
 fn with_numbers<'a>(alloc: Global, command: Command<'a>) -> Result<Command<'a>, AllocError>
     ensures { IfOk result (λ c. app_of c ≡ spec.with_numbers (app_of command.entry)) }
 {
-    let help = "how many workers run the batches, 0 to 64";
+    let help = "how many workers run the batches, up to 64; 0: one for each processor";
     let workers = named_argument(alloc, "workers", "N", help);
     let command = command.arg(workers.default_value("1"))?;
     let help = "how many traces are in a batch at most, 1 to 64";

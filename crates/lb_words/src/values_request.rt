@@ -24,7 +24,7 @@ pub struct Values<'a> {
     pub last: u32,
     /// Whether the variables of every instance are shown.
     pub is_whole: bool,
-    /// The names of the variables that are shown, parted by commas, if only some are.
+    /// The names of the variables that are shown, separated by commas, if only some are.
     pub names: Option<&'a str>,
 }
 
@@ -45,7 +45,7 @@ fn with_choice<'a>(alloc: Global, command: Command<'a>) -> Result<Command<'a>, A
     let help = "shows the last N instants; 0 for all";
     let last = named_argument(alloc, "last", "N", help);
     let command = command.arg(last.default_value("0"))?;
-    let help = "shows these variables, parted by commas";
+    let help = "shows these variables, separated by commas";
     command.arg(named_argument(alloc, "vars", "NAMES", help))
 }
 

@@ -54,7 +54,7 @@ const OPTIONS: [Known; 21] = [
     },
     Known {
         name: "--vars",
-        values: "names of variables, parted by commas",
+        values: "names of variables, separated by commas",
     },
     Known {
         name: "--all",
