@@ -58,18 +58,6 @@ impl Run {
         })
     }
 
-    /// A run of a row: its first line has the words, and the others are the input.
-    pub fn new<R: Files + AllocGlobal + Threads + Wait + Clock + Sync>(
-        rt: &R,
-        asked: &str,
-    ) -> Result<Self, AllocError>
-    where
-        R::File: FileExt + Sync + Send,
-    {
-        let (line, input) = asked.split_once('\n').unwrap_or((asked, ""));
-        Run::on(rt, line, input)
-    }
-
     /// The errors that are printed, and the status.
     pub fn push_errors(&self, said: &mut String) -> Result<(), AllocError> {
         let errors = text(self.errors.as_slice());

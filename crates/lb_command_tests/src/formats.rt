@@ -44,26 +44,7 @@ main.pair@12:7.keep@7:8.y  ? 2  2
 status 0
 ----
 lbench --show t --all --format csv
-node keep(c: bool; x: int when c) returns (y: int);
-let y = current x; tel
-node pair(c: bool; x: int) returns (q: int^2);
-var s: int when c;
-let
-  s = x when c;
-  q = [keep(c, s), 6 / x];
-tel
-node main(c: bool; x: int) returns (ok: bool);
-var A: int^2; b: bool;
-let
-  A = pair(c, x);
-  b = pre c;
-  ok = A[1] > 0;
-tel
-%traces
-trace,c,x
-t,0,3
-t,1,2
-t,0,0
+as above
 =>
 instant,main.c,main.x,main.ok,main.A[0],main.A[1],main.b,main.pair@12:7.c,main.pair@12:7.x,\
 main.pair@12:7.q[0],main.pair@12:7.q[1],main.pair@12:7.s,main.pair@12:7.keep@7:8.c,\
@@ -74,26 +55,7 @@ main.pair@12:7.keep@7:8.x,main.pair@12:7.keep@7:8.y
 status 0
 ----
 lbench --show t --all --format vcd
-node keep(c: bool; x: int when c) returns (y: int);
-let y = current x; tel
-node pair(c: bool; x: int) returns (q: int^2);
-var s: int when c;
-let
-  s = x when c;
-  q = [keep(c, s), 6 / x];
-tel
-node main(c: bool; x: int) returns (ok: bool);
-var A: int^2; b: bool;
-let
-  A = pair(c, x);
-  b = pre c;
-  ok = A[1] > 0;
-tel
-%traces
-trace,c,x
-t,0,3
-t,1,2
-t,0,0
+as above
 =>
 $comment t fault 2 $end
 $timescale 1 us $end
@@ -172,26 +134,7 @@ bz -
 status 0
 ----
 lbench --show t --all --format svg
-node keep(c: bool; x: int when c) returns (y: int);
-let y = current x; tel
-node pair(c: bool; x: int) returns (q: int^2);
-var s: int when c;
-let
-  s = x when c;
-  q = [keep(c, s), 6 / x];
-tel
-node main(c: bool; x: int) returns (ok: bool);
-var A: int^2; b: bool;
-let
-  A = pair(c, x);
-  b = pre c;
-  ok = A[1] > 0;
-tel
-%traces
-trace,c,x
-t,0,3
-t,1,2
-t,0,0
+as above
 =>
 <svg xmlns=\"http://www.w3.org/2000/svg\" font-family=\"monospace\" font-\
 size=\"12\" width=\"270\" height=\"420\">

@@ -169,7 +169,7 @@ c false 2: main.ok is false (-:22:3)
   22:29: `and`, its left side is false
   17:3: none = `nor`, one of its operands is true
   15:3: was = mem(on[0], on[1]), which is true
-  8:3: mem.was = `->`, its right side is taken
+  8:3: mem.was = `fby`, its right side is taken
   8:9: false fby a is true, kept since instant 1
 e assertion 1: assert true -> (w <> 49 or s > 0) (-:21:3)
   21:10: `->`, its right side is taken
@@ -475,13 +475,70 @@ t@,1}
 }status 1
 ----
 lbench --explain-all
-node main(x: int) returns (ok: bool);
-let ok = x > pre x; tel
-%traces
-trace,x{22 
-t@,1}
+as above
 =>
 {22 t@ undefined 0
 }total 22 passed 0 fault 0 undefined 22 assertion 0 false 0
 {22 t@ undefined 0: main.ok is nil: pre x has no value yet (-:2:14)
-}status 1";
+}status 1
+----
+lbench --explain
+-- Where `nor` and `#` are true, and where `fby` takes its right side.
+node main(a, b: bool; n: int) returns (ok: bool);
+var few, none: bool;
+let
+  none = not nor(a, b);
+  few = not #(a, b);
+  ok = if n = 0 then none else if n = 1 then few else (true fby a);
+tel
+%traces
+trace,a,b,n
+none,0,0,0
+few,0,1,1
+late,0,1,2
+late,0,1,2
+=>
+none false 0
+few false 0
+late false 1
+total 3 passed 0 fault 0 undefined 0 assertion 0 false 3
+none false 0: main.ok is false (-:7:3)
+  7:8: `if`, its condition is true
+  5:3: none = not nor(a, b) with nor(a, b) = true
+  5:14: `nor`, none of its operands is true
+few false 0: main.ok is false (-:7:3)
+  7:8: `if`, its condition is false
+  7:32: `if`, its condition is true
+  6:3: few = not #(a, b) with #(a, b) = true
+  6:13: `#`, at most one of its operands is true
+late false 1: main.ok is false (-:7:3)
+  7:8: `if`, its condition is false
+  7:32: `if`, its condition is false
+  7:56: `fby`, its right side is taken
+  7:56: true fby a is false, kept since instant 0
+status 1
+----
+lbench --explain
+-- Faults within an array form and an iterator: of an assertion, and of a memory.
+node main(n: int) returns (ok: bool);
+var m: int;
+let
+  assert [100 / n, 1][0] < 100;
+  assert red<<+, 2>>(n, [2147483640, 1]) > 0;
+  m = 0 -> pre (([100 / (n - 3), 1])[0]);
+  ok = m < 100;
+tel
+%traces
+trace,n
+zero,0
+sum,9
+three,3
+=>
+zero fault 0
+sum fault 0
+three fault 0
+total 3 passed 0 fault 3 undefined 0 assertion 0 false 0
+zero fault 0: an assertion, `/` with 100, 0, in [100 / n, 1][0] < 100 (-:5:10)
+sum fault 0: an assertion, `+` with 9, 2147483640, in red<<+, 2>>(n, [2147483640, 1]) > 0 (-:6:10)
+three fault 0: what a memory keeps, `/` with 100, 0, in 0 -> pre (([100 / (n - 3), 1])[0]) (-:7:7)
+status 1";

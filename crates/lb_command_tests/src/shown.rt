@@ -51,37 +51,7 @@ main.q     0  0  1  2
 status 0
 ----
 lbench --show one --format csv --all --last 2
--- Two levels of instances, an array, a clock, nil and a fault.
-node count(up: bool) returns (n: int);
-let
-  n = (0 -> pre n) + (if up then 1 else 0);
-tel
-node twice(up: bool; c: bool) returns (n: int; held: int);
-var slow: int when c;
-let
-  n = count(up) + count(not up);
-  slow = n when c;
-  held = current slow;
-tel
-node main(up: bool; c: bool; d: int) returns (ok: bool);
-var n: int; held: int; A: int^2; last: int; q: int;
-let
-  (n, held) = twice(up, c);
-  A = [n, d];
-  last = pre d;
-  q = n / d;
-  ok = n < 4;
-tel
-%traces
-trace,up,c,d
-one,1,0,5
-one,0,1,-7
-one,1,0,3
-one,1,1,2
-one,1,1,2
-two,1,1,1
-two,0,1,0
-three,1,0,2147483647
+as above
 =>
 instant,main.up,main.c,main.d,main.ok,main.n,main.held,main.A[0],main.A[1],main.last,main.q,main.twice@16:15.up,main.twice@16:15.c,main.twice@16:15.n,main.twice@16:15.held,main.twice@16:15.slow,main.twice@16:15.count@9:7.up,main.twice@16:15.count@9:7.n,main.twice@16:15.count@9:19.up,main.twice@16:15.count@9:19.n
 2,1,0,3,1,3,2,3,3,-7,1,1,0,3,2,,1,2,0,1
@@ -89,37 +59,7 @@ instant,main.up,main.c,main.d,main.ok,main.n,main.held,main.A[0],main.A[1],main.
 status 0
 ----
 lbench --show two --format vcd --vars q,ok,main.last
--- Two levels of instances, an array, a clock, nil and a fault.
-node count(up: bool) returns (n: int);
-let
-  n = (0 -> pre n) + (if up then 1 else 0);
-tel
-node twice(up: bool; c: bool) returns (n: int; held: int);
-var slow: int when c;
-let
-  n = count(up) + count(not up);
-  slow = n when c;
-  held = current slow;
-tel
-node main(up: bool; c: bool; d: int) returns (ok: bool);
-var n: int; held: int; A: int^2; last: int; q: int;
-let
-  (n, held) = twice(up, c);
-  A = [n, d];
-  last = pre d;
-  q = n / d;
-  ok = n < 4;
-tel
-%traces
-trace,up,c,d
-one,1,0,5
-one,0,1,-7
-one,1,0,3
-one,1,1,2
-one,1,1,2
-two,1,1,1
-two,0,1,0
-three,1,0,2147483647
+as above
 =>
 $comment two fault 1 $end
 $timescale 1 us $end
@@ -143,37 +83,7 @@ b1 #
 status 0
 ----
 lbench --show three --format csv --vars main.twice@16:15.slow,A[1],A
--- Two levels of instances, an array, a clock, nil and a fault.
-node count(up: bool) returns (n: int);
-let
-  n = (0 -> pre n) + (if up then 1 else 0);
-tel
-node twice(up: bool; c: bool) returns (n: int; held: int);
-var slow: int when c;
-let
-  n = count(up) + count(not up);
-  slow = n when c;
-  held = current slow;
-tel
-node main(up: bool; c: bool; d: int) returns (ok: bool);
-var n: int; held: int; A: int^2; last: int; q: int;
-let
-  (n, held) = twice(up, c);
-  A = [n, d];
-  last = pre d;
-  q = n / d;
-  ok = n < 4;
-tel
-%traces
-trace,up,c,d
-one,1,0,5
-one,0,1,-7
-one,1,0,3
-one,1,1,2
-one,1,1,2
-two,1,1,1
-two,0,1,0
-three,1,0,2147483647
+as above
 =>
 instant,main.twice@16:15.slow,main.A[1],main.A[0],main.A[1]
 0,,2147483647,1,2147483647
@@ -233,32 +143,7 @@ safe.current_of@15:18.n   1 2  3
 status 0
 ----
 lbench --observe safe --show t --format csv
-node cell(on: bool) returns (n: int);
-let n = (0 -> pre n) + (if on then 1 else 0); tel
-node main(on: bool^2; go: bool) returns (ok: bool);
-var c: int^2; slow: int when go; p: bool;
-let
-  c = map<<cell, 2>>(on);
-  slow = c[0] when go;
-  p = false -> pre on[0];
-  ok = c[0] + c[1] < 4;
-tel
-node safe(on: bool^2; go: bool; x: bool) returns (ok: bool);
-var bad: int;
-let
-  assert go or x;
-  bad = 6 / (3 - current_of(go));
-  ok = x and bad > 0;
-tel
-node current_of(go: bool) returns (n: int);
-let n = (0 -> pre n) + 1; tel
-%traces
-trace,on[0],on[1],go
-t,1,0,1
-t,1,1,0
-t,0,0,1
-u,1,1,0
-u,1,1,0
+as above
 =>
 instant,main.on[0],main.on[1],main.go,main.ok,main.c[0],main.c[1],main.slow,main.p,safe.on[0],safe.on[1],safe.go,safe.x,safe.ok,safe.bad
 0,1,0,1,1,1,0,1,0,1,0,1,1,1,3
@@ -267,32 +152,7 @@ instant,main.on[0],main.on[1],main.go,main.ok,main.c[0],main.c[1],main.slow,main
 status 0
 ----
 lbench --observe safe --show t --format vcd --vars slow,safe.bad,c[1]
-node cell(on: bool) returns (n: int);
-let n = (0 -> pre n) + (if on then 1 else 0); tel
-node main(on: bool^2; go: bool) returns (ok: bool);
-var c: int^2; slow: int when go; p: bool;
-let
-  c = map<<cell, 2>>(on);
-  slow = c[0] when go;
-  p = false -> pre on[0];
-  ok = c[0] + c[1] < 4;
-tel
-node safe(on: bool^2; go: bool; x: bool) returns (ok: bool);
-var bad: int;
-let
-  assert go or x;
-  bad = 6 / (3 - current_of(go));
-  ok = x and bad > 0;
-tel
-node current_of(go: bool) returns (n: int);
-let n = (0 -> pre n) + 1; tel
-%traces
-trace,on[0],on[1],go
-t,1,0,1
-t,1,1,0
-t,0,0,1
-u,1,1,0
-u,1,1,0
+as above
 =>
 $comment t fault 2 $end
 $timescale 1 us $end
@@ -322,32 +182,7 @@ bx \"
 status 0
 ----
 lbench --observe safe --show u --last 1
-node cell(on: bool) returns (n: int);
-let n = (0 -> pre n) + (if on then 1 else 0); tel
-node main(on: bool^2; go: bool) returns (ok: bool);
-var c: int^2; slow: int when go; p: bool;
-let
-  c = map<<cell, 2>>(on);
-  slow = c[0] when go;
-  p = false -> pre on[0];
-  ok = c[0] + c[1] < 4;
-tel
-node safe(on: bool^2; go: bool; x: bool) returns (ok: bool);
-var bad: int;
-let
-  assert go or x;
-  bad = 6 / (3 - current_of(go));
-  ok = x and bad > 0;
-tel
-node current_of(go: bool) returns (n: int);
-let n = (0 -> pre n) + 1; tel
-%traces
-trace,on[0],on[1],go
-t,1,0,1
-t,1,1,0
-t,0,0,1
-u,1,1,0
-u,1,1,0
+as above
 =>
 u assertion 1
 
@@ -416,18 +251,7 @@ x,1,0
 status 0
 ----
 lbench --show x
-node main(up: bool; n: int) returns (ok: bool);
-var k: int when up; l: int;
-let
-  k = n when up;
-  l = current k;
-  ok = l < 3 or 6 / n > 1;
-tel
-%traces
-trace,up,n
-x,1,2
-x,0,4
-x,1,0
+as above
 =>
 x fault 2
 
@@ -460,24 +284,14 @@ v,4
 status 0
 ----
 lbench --show v --format csv --follow
-node main(x: int) returns (ok: bool);
-let ok = x > pre x; tel
-%traces
-trace,x
-v,3
-v,4
+as above
 =>
 instant,main.x,main.ok
 0,3,?
 status 0
 ----
 lbench --show nobody --explain
-node main(x: int) returns (ok: bool);
-let ok = x > pre x; tel
-%traces
-trace,x
-v,3
-v,4
+as above
 =>
 refused: E20 usage
 lbench: error: no trace is named `nobody`
@@ -485,48 +299,28 @@ help: the report has the names of all traces
 status 2
 ----
 lbench --show v --vars x,y --explain
-node main(x: int) returns (ok: bool);
-let ok = x > pre x; tel
-%traces
-trace,x
-v,3
-v,4
+as above
 =>
 refused: E20 usage
 lbench: error: no variable is named `y`
-help: with `--format csv --all --last 1` the names of all variables
+help: `--format csv --all --last 1` prints the names of all variables
 status 2
 ----
 lbench --show v --format pdf --explain
-node main(x: int) returns (ok: bool);
-let ok = x > pre x; tel
-%traces
-trace,x
-v,3
-v,4
+as above
 =>
 refused: E20 usage
 lbench: error: `pdf` is no value of `--format`, which takes lines or junit, and with `--show` table, csv, vcd or svg
 status 2
 ----
 lbench --show v --last -1
-node main(x: int) returns (ok: bool);
-let ok = x > pre x; tel
-%traces
-trace,x
-v,3
-v,4
+as above
 =>
 refused: E20 usage
 status 2
 ----
 lbench --show v --last 1000000001
-node main(x: int) returns (ok: bool);
-let ok = x > pre x; tel
-%traces
-trace,x
-v,3
-v,4
+as above
 =>
 refused: E20 usage
 status 2

@@ -1,7 +1,8 @@
 //! The tables of text, and the loop over their rows.
 //!
 //! A row has the words of a command line in its first line, then the input, and behind a mark the
-//! wanted answer. `{3 a}` in a row stands for `aaa`, and `{1..2 x@ @, }` for `x1 1, x2 2, `.
+//! wanted answer. The input `as above` is that of the row above. `{3 a}` in a row stands for `aaa`,
+//! and `{1..2 x@ @, }` for `x1 1, x2 2, `.
 
 use crate::command_lines::{Run, expect, is_same};
 use crate::{
@@ -106,17 +107,18 @@ fn write_out(row: &mut String, short: &str) -> Result<bool, AllocError> {
     Ok(true)
 }
 
-/// The answer of a run to a row.
+/// The answer of a run of a command line on an input.
 fn push_answer<R: Files + AllocGlobal + Threads + Wait + Clock + Sync>(
     rt: &R,
     asks: Asks,
-    asked: &str,
+    line: &str,
+    input: &str,
     said: &mut String,
 ) -> Result<(), AllocError>
 where
     R::File: FileExt + Sync + Send,
 {
-    let run = Run::new(rt, asked)?;
+    let run = Run::on(rt, line, input)?;
     match asks {
         Asks::Errors => run.push_errors(said),
         Asks::Answers => run.push_answer(said),
@@ -125,11 +127,12 @@ where
 }
 
 /// Whether `said`, the answer to a row, is the wanted one. A row without the mark has no wanted
-/// answer.
+/// answer. The input of the row stays in `input`, for the row below.
 fn is_right<R: Files + AllocGlobal + Threads + Wait + Clock + Sync>(
     rt: &R,
     table: Table,
     row: &str,
+    input: &mut String,
     said: &mut String,
 ) -> Result<bool, AllocError>
 where
@@ -140,7 +143,12 @@ where
     let Some((asked, wanted)) = row.rsplit_once(mark) else {
         return Ok(false);
     };
-    push_answer(rt, asks, asked, said)?;
+    let (line, own) = asked.split_once('\n').unwrap_or((asked, ""));
+    if !is_same(own, "as above") {
+        input.clear();
+        input.push_str(own)?;
+    }
+    push_answer(rt, asks, line, input.as_str(), said)?;
     Ok(is_same(said.as_str(), wanted))
 }
 
@@ -156,8 +164,9 @@ where
     R::File: FileExt + Sync + Send,
 {
     let (_, _, rows) = table;
+    let mut input = String::new(rt.alloc());
     for short in rows.split("\n----\n") {
-        if !write_out(row, short)? || !is_right(rt, table, row.as_str(), said)? {
+        if !write_out(row, short)? || !is_right(rt, table, row.as_str(), &mut input, said)? {
             return Ok(false);
         }
     }
