@@ -331,18 +331,60 @@ fn first_wrong<'w>(alloc: Global, words: &'w [String]) -> Result<Option<Wrong<'w
     Ok(None)
 }
 
-/// The explanation where each word is lawful, but not all of them together.
-const TOGETHER: &str = "these words do not go together\n\
-    help: `--follow` takes a worker, and no `--strict`, `--baseline` or `--format junit`\n\
-    help: `--format` takes lines or junit, and with `--show` table, csv, vcd or svg\n\
-    help: `--merge` takes no source, and `--part` a file of traces\n";
+/// What an option asks of the other words.
+#[derive(Clone, Copy)]
+struct Rule {
+    name: &'static str,
+    help: &'static str,
+}
+
+const RULES: [Rule; 4] = [
+    Rule {
+        name: "--follow",
+        help: "help: `--follow` takes a worker, and no `--strict`, `--baseline` or `--format junit`\n",
+    },
+    Rule {
+        name: "--format",
+        help: "help: `--format` takes lines or junit, and with `--show` table, csv, vcd or svg\n",
+    },
+    Rule {
+        name: "--merge",
+        help: "help: `--merge` takes reports, and no source, traces or `--part`\n",
+    },
+    Rule {
+        name: "--part",
+        help: "help: `--part` takes a source and a file of traces\n",
+    },
+];
+
+/// Whether an option stands among the words.
+fn has_option(words: &[String], name: &str) -> bool {
+    for word in words {
+        if parts_of(word.as_str()).0 == name {
+            return true;
+        }
+    }
+    false
+}
+
+/// Tells that each word is lawful, but not all of them together, and what the options among them
+/// ask of others.
+fn put_together(page: &mut String, words: &[String]) -> Result<(), AllocError> {
+    page.push_str("these words do not go together\n")?;
+    for rule in RULES {
+        if has_option(words, rule.name) {
+            page.push_str(rule.help)?;
+        }
+    }
+    Ok(())
+}
 
 /// Tells the first word that the command line does not take.
 fn wrong_of(alloc: Global, words: &[String]) -> Result<String, AllocError> {
     let mut page = String::new(alloc);
     match first_wrong(alloc, words)? {
         Some(wrong) => put_wrong(&mut page, &wrong)?,
-        None => page.push_str(TOGETHER)?,
+        None => put_together(&mut page, words)?,
     }
     Ok(page)
 }
