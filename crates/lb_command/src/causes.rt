@@ -16,6 +16,8 @@ pub fn explain_name(alloc: Global, unknown: &Unknown) -> Result<Vec<u8>, AllocEr
     if unknown.is_trace {
         write!(page, "no trace is named `{name}`\n")?;
         page.push_str("help: the report has the names of all traces\n")?;
+    } else if name.is_empty() {
+        page.push_str("a name in the list of `--vars` is empty\n")?;
     } else {
         write!(page, "no variable is named `{name}`\n")?;
         page.push_str("help: `--format csv --all --last 1` prints the names of all variables\n")?;
@@ -41,7 +43,10 @@ pub fn explain_output(
 /// Explains E20 of a file that is no report: its path, and the first line that shows it.
 pub fn explain_no_report(alloc: Global, path: &str, line: usize) -> Result<Vec<u8>, AllocError> {
     let mut page = String::from_str(alloc, path)?;
-    write!(page, ":{line}:1: error: this line goes on no report\n")?;
+    write!(
+        page,
+        ":{line}:1: error: a report can not have this line here\n"
+    )?;
     page.push_str(
         "help: a report has a line for each trace, no trace twice, and ends with a line ",
     )?;

@@ -30,6 +30,16 @@ fn text_at<'a>(path: Option<&'a str>, bytes: &'a [u8], lines_before: u64) -> Tex
     }
 }
 
+/// The name of the text of traces: its path, or `-` for standard input, and which part of it this
+/// is. The lines of a part are counted from its header on.
+fn traces_name(alloc: Global, task: &Task<'_>) -> Result<String, AllocError> {
+    let path = task.traces.unwrap_or("-");
+    match task.part {
+        Some(part) => format!(in alloc; "{path}, part {}/{}", part.number, part.count),
+        None => String::from_str(alloc, path),
+    }
+}
+
 /// The number of lines of a case text before its traces.
 fn lines_before(case: &[u8], traces: &[u8]) -> u64 {
     let mut lines: u64 = 0;
@@ -51,7 +61,8 @@ fn explain_texts(
     match texts {
         Texts::Two { source, traces } => {
             let source = text_at(task.source, source.as_slice(), 0);
-            let traces = text_at(task.traces, traces.as_slice(), 0);
+            let name = traces_name(alloc, task)?;
+            let traces = text_at(Some(name.as_str()), traces.as_slice(), 0);
             explain(alloc, &source, &traces, options, error)
         }
         Texts::Case(case) => {

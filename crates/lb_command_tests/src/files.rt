@@ -267,6 +267,33 @@ fn part_with_a_quote(rt: HostRuntime) -> Result<(), Fail> {
     expect_answer(&rt, folder.as_str(), &QUOTED)
 }
 
+/// A cell in the second of two parts that is no number.
+static REFUSED_PART: Case = Case {
+    files: &[
+        ("@cells.lus", SOURCE),
+        ("@cells.csv", "trace,x\na,3\nb,5\nc,1\nd,x\n"),
+    ],
+    runs: &[(
+        "lbench --explain --node plant --observe small --part 2/2 @cells.lus @cells.csv",
+        "",
+    )],
+    wanted: "\
+|refused: E16 cell
+@cells.csv, part 2/2:4:3: error: column `x` is int, and `x` is no value of it
+    4 | d,x
+      |   ^
+help: write at most 20 digits, with or without a `-` before them
+in trace `d`, instant 0, record 3
+|2
+",
+};
+
+#[test]
+fn part_with_a_bad_cell(rt: HostRuntime) -> Result<(), Fail> {
+    let folder = env::temp_dir(&rt)?;
+    expect_answer(&rt, folder.as_str(), &REFUSED_PART)
+}
+
 // ## Parts that are merged
 
 /// The source, and twenty records of seven traces, with a blank line and both ends of lines.
