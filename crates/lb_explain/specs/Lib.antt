@@ -1,2 +1,1 @@
-pub mod FirstPlaces
-pub mod Found
+pub use Rattle.lb_places.specs.FirstPlaces

@@ -1,46 +1,43 @@
 //! E15 and E16: a record with too few or too many cells, and a cell that is no value.
 
-ghost use Rattle.std.specs.Prelude.{◌≡◌, ◌<◌, length, slice_get, IfSome, Some};
-ghost use Rattle.lb_static.specs.Signature.{names_of};
-
 use crate::bytes::{count, part};
 use crate::counts::put_count;
 use crate::excerpt::{put_excerpt, put_place};
 use crate::instants::instant_of;
-use crate::quoted::{cell_at, decoded, end_of_record, width};
-use crate::records::{CellPlace, Cursor, header_and_record};
-use crate::texts::{Stretch, Text, line_start, spot_in};
+use crate::page::Page;
+use crate::quoted::{CellPlace, cell_at, decoded, end_of_record, width};
+use crate::texts::{Stretch, line_start, spot_in};
+use lb_places::{Cursor, Text, header_and_record, input_named};
 use lb_static::Signature;
 use lb_syntax::Kind;
-use std::alloc::{AllocError, Global};
 
 /// The most bytes of a cell that are shown.
 const SHOWN: usize = 40;
 
 /// Puts a byte of a cell, with an escape where it is not printed.
-fn put_escaped(page: &mut String, b: u8) -> Result<(), AllocError> {
+fn put_escaped(page: &mut Page, b: u8) {
     match b {
-        b'\t' => page.push_str("\\t"),
-        b'\n' => page.push_str("\\n"),
-        b'\r' => page.push_str("\\r"),
-        b' '..=b'~' => page.push(char::from(b)),
+        b'\t' => page.put("\\t"),
+        b'\n' => page.put("\\n"),
+        b'\r' => page.put("\\r"),
+        b' '..=b'~' => page.put_letter(char::from(b)),
         _ => write!(page, "\\x{b:02X}"),
     }
 }
 
 /// Puts a cell between back quotes, at most 40 bytes of it.
-pub fn put_cell(page: &mut String, cell: &[u8]) -> Result<(), AllocError> {
+pub fn put_cell(page: &mut Page, cell: &[u8]) {
     if cell.is_empty() {
-        return page.push_str("an empty cell");
+        return page.put("an empty cell");
     }
-    page.push('`')?;
+    page.put("`");
     for b in part(cell, 0, SHOWN) {
-        put_escaped(page, *b)?;
+        put_escaped(page, *b);
     }
     if cell.len() > SHOWN {
-        page.push_str("..")?;
+        page.put("..");
     }
-    page.push('`')
+    page.put("`");
 }
 
 /// The place of some bytes of a record in its text.
@@ -51,46 +48,36 @@ pub fn stretch_of(text: &Text<'_>, record: &Cursor, start: usize, end: usize) ->
 }
 
 /// The value of cell `place` of the record that begins at `start`, without quotes; empty where the
-/// record has no such cell.
-pub fn cell_of(
-    alloc: Global,
-    text: &[u8],
-    start: usize,
-    place: usize,
-) -> Result<Vec<u8>, AllocError> {
+/// record has no such cell. Where memory runs out the page is cut.
+pub fn cell_of(page: &mut Page, text: &[u8], start: usize, place: usize) -> Vec<u8> {
     match cell_at(text, start, place) {
-        Some(cell) => decoded(alloc, cell.raw(text)),
-        None => Ok(Vec::new(alloc)),
+        Some(cell) => decoded(page, cell.raw(text)),
+        None => Vec::new(page.alloc()),
     }
 }
 
 /// Puts the trace, the instant and the number of a record.
-pub fn put_record(
-    page: &mut String,
-    alloc: Global,
-    text: &[u8],
-    record: &Cursor,
-) -> Result<(), AllocError> {
-    let name = cell_of(alloc, text, record.at, 0)?;
-    page.push_str("in trace ")?;
-    put_cell(page, name.as_slice())?;
+pub fn put_record(page: &mut Page, text: &[u8], record: &Cursor) {
+    let name = cell_of(page, text, record.at, 0);
+    page.put("in trace ");
+    put_cell(page, name.as_slice());
     let instant = instant_of(text, record, name.as_slice());
-    let number = record.records;
-    write!(page, ", instant {instant}, record {number}\n")
+    page.put_number_in(", instant ", instant, ", record ");
+    page.put_number_in("", record.records, "\n");
 }
 
-/// Puts a hint where a line has no commas, but has `;` or tabs.
-pub fn put_other_separator(page: &mut String, line: &[u8]) -> Result<(), AllocError> {
+/// The hint where a line has no commas, but has `;` or tabs; else empty.
+pub fn separator_mend(line: &[u8]) -> &'static str {
     if count(line, b',') > 0 {
-        return Ok(());
+        return "";
     }
     if count(line, b';') > 0 {
-        return page.push_str("help: it looks parted by `;`; cells are parted by `,`\n");
+        return "help: it looks parted by `;`; cells are parted by `,`\n";
     }
     if count(line, b'\t') > 0 {
-        return page.push_str("help: it looks parted by tabs; cells are parted by `,`\n");
+        return "help: it looks parted by tabs; cells are parted by `,`\n";
     }
-    Ok(())
+    ""
 }
 
 /// The bytes to mark of a record of a wrong length: the cells that are too many, or the whole
@@ -109,64 +96,42 @@ fn marked(text: &[u8], record: &Cursor, columns: usize) -> CellPlace {
     }
 }
 
-/// Puts how to mend a record of a wrong length, for common mistakes.
-fn put_length_mend(
-    page: &mut String,
-    text: &[u8],
-    record: &Cursor,
-    cells: usize,
-    columns: usize,
-) -> Result<(), AllocError> {
-    let end = end_of_record(text, record.at);
-    let line = part(text, record.at, end);
+/// How to mend a record of a wrong length, for common mistakes; else empty.
+fn length_mend(line: &[u8], cells: usize, columns: usize) -> &'static str {
     if cells == columns.saturating_add(1) && line.ends_with(b",".as_slice()) {
-        return page.push_str("help: a comma at the end of a line begins one more cell\n");
+        return "help: a comma at the end of a line begins one more cell\n";
     }
     if count(line, b'\n') > 0 {
-        return page.push_str(
-            "help: a `\"` that begins a cell goes on to the next `\"`, over ends of lines too\n",
-        );
+        return "help: a `\"` that begins a cell goes on to the next `\"`, over ends of lines too\n";
     }
-    put_other_separator(page, line)
+    separator_mend(line)
 }
 
 /// Explains E15 for the record with a number.
-pub fn explain_length(
-    page: &mut String,
-    alloc: Global,
-    text: &Text<'_>,
-    number: u64,
-) -> Result<(), AllocError> {
+pub fn explain_length(page: &mut Page, text: &Text<'_>, number: u64) {
     let bytes = text.bytes;
     let Some((header, record)) = header_and_record(bytes, number) else {
-        return Ok(());
+        return;
     };
     let cells = width(bytes, record.at);
     let columns = width(bytes, header.at);
-    if cells == columns {
-        return Ok(());
+    if cells != columns {
+        put_length(page, text, &record, cells, columns);
     }
-    put_length(page, alloc, text, &record, cells, columns)
 }
 
 /// Puts the explanation of E15 for a record.
-fn put_length(
-    page: &mut String,
-    alloc: Global,
-    text: &Text<'_>,
-    record: &Cursor,
-    cells: usize,
-    columns: usize,
-) -> Result<(), AllocError> {
+fn put_length(page: &mut Page, text: &Text<'_>, record: &Cursor, cells: usize, columns: usize) {
     let found = marked(text.bytes, record, columns);
     let place = stretch_of(text, record, found.start, found.end);
-    put_place(page, text, &place, "error")?;
-    page.push_str("this record has ")?;
-    put_count(page, cells, "cell")?;
-    write!(page, ", and the header has {columns}\n")?;
-    put_excerpt(page, text, &place)?;
-    put_length_mend(page, text.bytes, record, cells, columns)?;
-    put_record(page, alloc, text.bytes, record)
+    put_place(page, text, &place, "error");
+    page.put("this record has ");
+    put_count(page, cells, "cell");
+    page.put_number_in(", and the header has ", columns as u64, "\n");
+    put_excerpt(page, text, &place);
+    let end = end_of_record(text.bytes, record.at);
+    page.put(length_mend(part(text.bytes, record.at, end), cells, columns));
+    put_record(page, text.bytes, record);
 }
 
 /// Whether a cell is 1 to 20 digits, with or without a minus sign before them.
@@ -277,34 +242,16 @@ fn is_bool(cell: &[u8]) -> bool {
     matches!(cell, b"0" | b"1" | b"true" | b"false")
 }
 
-/// The number of the input with a name, if there is one.
-pub fn input_named(signature: &Signature, name: &[u8]) -> Option<u32>
-    ensures within { IfSome result (λ i. i < length signature.now) }
-    ensures named { IfSome result (λ i. slice_get (names_of signature.now) i ≡ Some name.now) }
-{
-    for i in 0..signature.len() {
-        if signature.name(i).as_bytes() == name {
-            return Some(i);
-        }
-    }
-    None
-}
-
 /// Puts that a cell is no value of its column.
-fn put_no_value(
-    page: &mut String,
-    column: &[u8],
-    kind: Kind,
-    cell: &[u8],
-) -> Result<(), AllocError> {
-    page.push_str("column ")?;
-    put_cell(page, column)?;
-    page.push_str(match kind {
+fn put_no_value(page: &mut Page, column: &[u8], kind: Kind, cell: &[u8]) {
+    page.put("column ");
+    put_cell(page, column);
+    page.put(match kind {
         Kind::Int => " is int, and ",
         Kind::Bool => " is bool, and ",
-    })?;
-    put_cell(page, cell)?;
-    page.push_str(" is no value of it\n")
+    });
+    put_cell(page, cell);
+    page.put(" is no value of it\n");
 }
 
 /// The mend of a cell; empty where it is a value of its kind.
@@ -316,52 +263,49 @@ fn mend_of(kind: Kind, cell: &[u8]) -> &'static str {
     }
 }
 
-/// Puts the explanation of E16 for a cell of a record.
+/// Puts the explanation of E16 for the cell `value` of a record, which stands at `found`, in a
+/// column with a name and a kind.
 fn put_value(
-    page: &mut String,
-    alloc: Global,
+    page: &mut Page,
     text: &Text<'_>,
     record: &Cursor,
     found: &CellPlace,
-    column: &[u8],
-    kind: Kind,
-) -> Result<(), AllocError> {
-    let cell = decoded(alloc, found.raw(text.bytes))?;
-    let mend = mend_of(kind, cell.as_slice());
+    value: &[u8],
+    column: (&[u8], Kind),
+) {
+    let (name, kind) = column;
+    let mend = mend_of(kind, value);
     if mend.is_empty() {
-        return Ok(());
+        return;
     }
     let place = stretch_of(text, record, found.start, found.end);
-    put_place(page, text, &place, "error")?;
-    put_no_value(page, column, kind, cell.as_slice())?;
-    put_excerpt(page, text, &place)?;
-    write!(page, "help: {mend}\n")?;
-    put_record(page, alloc, text.bytes, record)
+    put_place(page, text, &place, "error");
+    put_no_value(page, name, kind, value);
+    put_excerpt(page, text, &place);
+    page.put_in("help: ", mend, "\n");
+    put_record(page, text.bytes, record);
 }
 
 /// Explains E16 for the record with a number; `column` counts the columns after `trace` from 0.
 pub fn explain_cell(
-    page: &mut String,
-    alloc: Global,
+    page: &mut Page,
     text: &Text<'_>,
     signature: &Signature,
     number: u64,
     column: usize,
-) -> Result<(), AllocError> {
+) {
     let bytes = text.bytes;
     let Some((header, record)) = header_and_record(bytes, number) else {
-        return Ok(());
+        return;
     };
     let place = column.saturating_add(1);
     let Some(found) = cell_at(bytes, record.at, place) else {
-        return Ok(());
+        return;
     };
-    let name = cell_of(alloc, bytes, header.at, place)?;
-    match input_named(signature, name.as_slice()) {
-        Some(i) => {
-            let kind = signature.kind(i);
-            put_value(page, alloc, text, &record, &found, name.as_slice(), kind)
-        }
-        None => Ok(()),
+    let name = cell_of(page, bytes, header.at, place);
+    let value = decoded(page, found.raw(bytes));
+    if let Some(i) = input_named(signature, name.as_slice()) {
+        let column = (name.as_slice(), signature.kind(i));
+        put_value(page, text, &record, &found, value.as_slice(), column);
     }
 }

@@ -3,8 +3,9 @@
 use crate::bytes::{byte_at, part};
 use crate::excerpt::put_excerpt;
 use crate::lexeme::{Sort, piece_at};
-use crate::texts::{Text, offset_of, spot};
-use std::alloc::AllocError;
+use crate::page::Page;
+use crate::texts::{offset_of, spot};
+use lb_places::Text;
 
 /// Whether `(*` or `/*` stands at a place.
 fn opens_comment(text: &[u8], at: usize) -> bool {
@@ -42,68 +43,62 @@ pub fn is_printable(b: u8) -> bool {
 }
 
 /// Puts a byte: as it is where it is printable, else as a number.
-pub fn put_byte(page: &mut String, b: u8) -> Result<(), AllocError> {
+pub fn put_byte(page: &mut Page, b: u8) {
     if is_printable(b) {
-        let c = char::from(b);
-        return write!(page, "`{c}`");
+        page.put("`");
+        page.put_letter(char::from(b));
+        page.put("`");
+    } else {
+        write!(page, "the byte 0x{b:02X}");
     }
-    write!(page, "the byte 0x{b:02X}")
 }
 
-/// Puts what is wrong with the bytes at a place.
-fn put_cause(page: &mut String, text: &[u8], at: usize) -> Result<(), AllocError> {
-    if opens_comment(text, at) {
-        page.push_str("the comment that begins here is not closed\n")?;
-        return Ok(());
-    }
+/// Puts what is wrong with the bytes at a place that begin no comment.
+fn put_cause(page: &mut Page, text: &[u8], at: usize) {
     if part(text, at, at.saturating_add(3)) == b"\xEF\xBB\xBF".as_slice() {
-        return page.push_str("a byte order mark begins no token\n");
+        return page.put("a byte order mark begins no token\n");
     }
-    put_byte(page, byte_at(text, at))?;
-    page.push_str(" begins no token\n")
+    put_byte(page, byte_at(text, at));
+    page.put(" begins no token\n");
 }
 
-/// Puts how to mend it, for common mistakes.
-fn put_mend(page: &mut String, text: &[u8], at: usize) -> Result<(), AllocError> {
-    if opens_comment(text, at) {
-        return put_closing(page, byte_at(text, at));
-    }
-    let mend = mend_of(byte_at(text, at), byte_at(text, at.saturating_add(1)));
-    if mend.is_empty() {
-        return Ok(());
-    }
-    write!(page, "help: {mend}\n")
-}
-
-/// Puts how a comment is closed that begins with `first` and `*`.
-fn put_closing(page: &mut String, first: u8) -> Result<(), AllocError> {
+/// The mend of a comment that is not closed, and begins with `first` and `*`.
+fn closing_mend(first: u8) -> &'static str {
     if first == b'(' {
-        return page.push_str("help: `(*` is closed by the next `*)`\n");
+        "`(*` is closed by the next `*)`"
+    } else {
+        "`/*` is closed by the next `*/`"
     }
-    page.push_str("help: `/*` is closed by the next `*/`\n")
 }
 
-/// The number of bytes to mark.
-fn marked(text: &[u8], at: usize) -> usize {
-    if opens_comment(text, at) {
-        return 2;
+/// Puts the line of a place with marks under the bytes from `at` to `end`, and a mend, unless it is
+/// empty.
+fn put_marked(page: &mut Page, text: &Text<'_>, at: usize, end: usize, mend: &str) {
+    put_excerpt(page, text, &spot(text, at, end));
+    if !mend.is_empty() {
+        page.put_in("help: ", mend, "\n");
     }
-    match (byte_at(text, at), byte_at(text, at.saturating_add(1))) {
+}
+
+/// The number of bytes to mark, by the byte at a place and the one behind it.
+fn marked(first: u8, second: u8) -> usize {
+    match (first, second) {
         (b'!', b'=') | (b'&', b'&') => 2,
         _ => 1,
     }
 }
 
 /// Explains E1 at a line and a column.
-pub fn explain_character(
-    page: &mut String,
-    text: &Text<'_>,
-    line: u32,
-    column: u32,
-) -> Result<(), AllocError> {
+pub fn explain_character(page: &mut Page, text: &Text<'_>, line: u32, column: u32) {
     let at = offset_of(text.bytes, line, column);
-    let place = spot(text, at, at.saturating_add(marked(text.bytes, at)));
-    put_cause(page, text.bytes, at)?;
-    put_excerpt(page, text, &place)?;
-    put_mend(page, text.bytes, at)
+    let behind = at.saturating_add(1);
+    let (first, second) = (byte_at(text.bytes, at), byte_at(text.bytes, behind));
+    if opens_comment(text.bytes, at) {
+        page.put("the comment that begins here is not closed\n");
+        put_marked(page, text, at, at.saturating_add(2), closing_mend(first));
+    } else {
+        put_cause(page, text.bytes, at);
+        let end = at.saturating_add(marked(first, second));
+        put_marked(page, text, at, end, mend_of(first, second));
+    }
 }

@@ -7,127 +7,121 @@ use crate::excerpt::{put_bytes, put_place};
 use crate::interfaces::interface_of;
 use crate::lexeme::{Lexeme, Sort, token_at};
 use crate::marking::{put_marked, word_of};
+use crate::page::Page;
 use crate::paths::put_path;
-use crate::texts::{Text, spot};
+use crate::texts::spot;
 use lb_check::{ClockFault, ClockRule, SourceClock};
+use lb_places::Text;
 use std::alloc::{AllocError, Global};
 
 /// Puts a clock, as `when open`.
-fn put_clock(page: &mut String, clock: &SourceClock) -> Result<(), AllocError> {
+fn put_clock(page: &mut Page, clock: &SourceClock) {
     if clock.signs.is_empty() {
-        return page.push_str("the base clock");
+        return page.put("the base clock");
     }
-    page.push('`')?;
+    page.put("`");
     for (place, sign) in clock.signs.iter().enumerate() {
-        if place > 0 {
-            page.push(' ')?;
-        }
-        write!(page, "{sign}")?;
+        page.put(if place > 0 { " " } else { "" });
+        write!(page, "{sign}");
     }
-    page.push('`')
+    page.put("`");
 }
 
 /// Puts a clock, if one is known.
-fn put_known_clock(page: &mut String, clock: Option<&SourceClock>) -> Result<(), AllocError> {
+fn put_known_clock(page: &mut Page, clock: Option<&SourceClock>) {
     match clock {
         Some(clock) => put_clock(page, clock),
-        None => page.push_str("a clock that nothing determines"),
+        None => page.put("a clock that nothing determines"),
     }
 }
 
 /// Puts the clock that was found, and the one that is wanted.
-fn put_clocks(page: &mut String, fault: &ClockFault, wanted: &str) -> Result<(), AllocError> {
-    page.push_str("this is on ")?;
-    put_known_clock(page, fault.found.as_ref())?;
+fn put_clocks(page: &mut Page, fault: &ClockFault, wanted: &str) {
+    page.put("this is on ");
+    put_known_clock(page, fault.found.as_ref());
     if let Some(clock) = &fault.wanted {
-        write!(page, ", and {wanted} on ")?;
-        put_clock(page, clock)?;
+        page.put_in(", and ", wanted, " on ");
+        put_clock(page, clock);
     }
-    page.push('\n')
+    page.put("\n");
 }
 
 /// Puts the clock of a left variable, and the one of the right side.
-fn put_left(page: &mut String, fault: &ClockFault) -> Result<(), AllocError> {
-    page.push_str("this is on ")?;
-    put_known_clock(page, fault.wanted.as_ref())?;
-    page.push_str(", and the right side on ")?;
-    put_known_clock(page, fault.found.as_ref())?;
-    page.push('\n')
+fn put_left(page: &mut Page, fault: &ClockFault) {
+    page.put("this is on ");
+    put_known_clock(page, fault.wanted.as_ref());
+    page.put(", and the right side on ");
+    put_known_clock(page, fault.found.as_ref());
+    page.put("\n");
 }
 
 /// Puts the rule that is broken.
-fn put_rule(page: &mut String, text: &Text<'_>, fault: &ClockFault) -> Result<(), AllocError> {
+fn put_rule(page: &mut Page, text: &Text<'_>, fault: &ClockFault) {
     match fault.rule {
         ClockRule::Operand(_) => put_operand(page, text, fault),
         ClockRule::Argument(place) => {
-            write!(page, "argument {place}: ")?;
-            put_clocks(page, fault, "it has to be")
+            page.put_number_in("argument ", place as u64, ": ");
+            put_clocks(page, fault, "it has to be");
         }
-        ClockRule::ClockArgument(place) => write!(
-            page,
-            "argument {place} is the clock of another one, and has to be a variable\n"
-        ),
+        ClockRule::ClockArgument(place) => {
+            let end = " is the clock of another one, and has to be a variable\n";
+            page.put_number_in("argument ", place as u64, end);
+        }
         ClockRule::When => put_clocks(page, fault, "the variable after `when`"),
         ClockRule::Left(_) => put_left(page, fault),
-        _ => put_further_rule(page, fault),
+        ClockRule::Current => {
+            page.put("`current` takes what is on the clock of a variable; ");
+            put_clocks(page, fault, "it has to be");
+        }
+        rule => page.put(words_of(rule)),
     }
 }
 
-/// Puts the rule that is broken, for the rules of `current`, iterators and declarations.
-fn put_further_rule(page: &mut String, fault: &ClockFault) -> Result<(), AllocError> {
-    match fault.rule {
-        ClockRule::Current => {
-            page.push_str("`current` takes what is on the clock of a variable; ")?;
-            put_clocks(page, fault, "it has to be")
+/// The rule that is broken, for the rules of iterators and declarations.
+fn words_of(rule: ClockRule) -> &'static str {
+    match rule {
+        ClockRule::IteratedNode => "an iterated node has no input or output with a `when`\n",
+        ClockRule::Interface => {
+            "the clock of an input has to be an input, that of an output an input or an output\n"
         }
-        ClockRule::IteratedNode => {
-            page.push_str("an iterated node has no input or output with a `when`\n")
-        }
-        ClockRule::Interface => page.push_str(
-            "the clock of an input has to be an input, that of an output an input or an output\n",
-        ),
-        _ => page.push_str("this declared clock depends on itself\n"),
+        _ => "this declared clock depends on itself\n",
     }
 }
 
 /// Puts that an operand is on another clock than those before it.
-fn put_operand(page: &mut String, text: &Text<'_>, fault: &ClockFault) -> Result<(), AllocError> {
+fn put_operand(page: &mut Page, text: &Text<'_>, fault: &ClockFault) {
     if let Some(sign) = fault.sign_offset {
-        page.push('`')?;
-        put_bytes(page, word_of(text, sign))?;
-        page.push_str("` wants operands on one clock; ")?;
+        page.put("`");
+        put_bytes(page, word_of(text, sign));
+        page.put("` wants operands on one clock; ");
     }
-    put_clocks(page, fault, "another operand")
+    put_clocks(page, fault, "another operand");
+}
+
+/// Puts the place of a token, as `pump.lus:14:13: note: `.
+fn put_token_place(page: &mut Page, text: &Text<'_>, token: &Lexeme) {
+    put_place(page, text, &spot(text, token.start, token.end), "note");
 }
 
 /// Puts where a variable is declared.
-fn put_declaration(page: &mut String, text: &Text<'_>, name: &Lexeme) -> Result<(), AllocError> {
-    put_place(page, text, &spot(text, name.start, name.end), "note")?;
-    page.push('`')?;
-    put_bytes(page, name.of(text.bytes))?;
-    page.push_str("` is declared here, on ")
+fn put_declaration(page: &mut Page, text: &Text<'_>, name: &Lexeme) {
+    put_token_place(page, text, name);
+    page.put("`");
+    put_bytes(page, name.of(text.bytes));
+    page.put("` is declared here, on ");
 }
 
-/// Puts where a `when` stands.
-fn put_when(page: &mut String, text: &Text<'_>, word: &Lexeme) -> Result<(), AllocError> {
-    put_place(page, text, &spot(text, word.start, word.end), "note")?;
-    page.push_str("this `when` puts it on ")
-}
-
-/// Puts where a clock comes from, if that is known.
-fn put_origin(
-    page: &mut String,
-    text: &Text<'_>,
-    clock: &SourceClock,
-    place: Option<ClockPlace>,
-) -> Result<(), AllocError> {
+/// Puts where a clock comes from.
+fn put_origin(page: &mut Page, text: &Text<'_>, clock: &SourceClock, place: ClockPlace) {
     match place {
-        Some(ClockPlace::Declaration(name)) => put_declaration(page, text, &name)?,
-        Some(ClockPlace::When(word)) => put_when(page, text, &word)?,
-        None => return Ok(()),
+        ClockPlace::Declaration(name) => put_declaration(page, text, &name),
+        ClockPlace::When(word) => {
+            put_token_place(page, text, &word);
+            page.put("this `when` puts it on ");
+        }
     }
-    put_clock(page, clock)?;
-    page.push('\n')
+    put_clock(page, clock);
+    page.put("\n");
 }
 
 /// The declaration or the `when` that gives the clock that was found.
@@ -185,75 +179,64 @@ fn callee_before(
     Ok(opened.pop())
 }
 
-/// Puts where the called node declares the input for an argument.
-fn put_input(
-    page: &mut String,
-    alloc: Global,
-    text: &Text<'_>,
-    fault: &ClockFault,
-    argument: usize,
-) -> Result<(), AllocError> {
-    let (from, place) = (fault.part_offset as usize, fault.offset as usize);
-    let Some(callee) = callee_before(alloc, text.bytes, from, place)? else {
-        return Ok(());
-    };
-    let Some(interface) = interface_of(alloc, text.bytes, callee.of(text.bytes))? else {
-        return Ok(());
-    };
-    let Some(input) = interface.inputs.get(argument.saturating_sub(1)) else {
-        return Ok(());
-    };
-    let name = input.name;
-    put_place(page, text, &spot(text, name.start, name.end), "note")?;
-    page.push_str("the input `")?;
-    put_bytes(page, name.of(text.bytes))?;
-    page.push_str("` of ")?;
-    put_bytes(page, callee.of(text.bytes))?;
-    page.push_str(" is declared here\n")
+/// Puts where the node `callee` declares its input for an argument.
+fn put_input(page: &mut Page, text: &Text<'_>, callee: &[u8], argument: usize) {
+    let interface = interface_of(page, text.bytes, callee);
+    if let Some(interface) = &interface {
+        if let Some(input) = interface.inputs.get(argument.saturating_sub(1)) {
+            put_token_place(page, text, &input.name);
+            page.put("the input `");
+            put_bytes(page, input.name.of(text.bytes));
+            page.put("` of ");
+            put_bytes(page, callee);
+            page.put(" is declared here\n");
+        }
+    }
 }
 
-/// Puts where the clocks come from.
-fn put_origins(
-    page: &mut String,
-    alloc: Global,
-    text: &Text<'_>,
-    fault: &ClockFault,
-) -> Result<(), AllocError> {
+/// Puts where the node that is called at the place of a fault declares the input for an argument.
+fn put_called_input(page: &mut Page, text: &Text<'_>, fault: &ClockFault, argument: usize) {
+    let (from, place) = (fault.part_offset as usize, fault.offset as usize);
+    match callee_before(page.alloc(), text.bytes, from, place) {
+        Ok(Some(callee)) => put_input(page, text, callee.of(text.bytes), argument),
+        Ok(None) => {}
+        Err(_) => page.cut_if(true),
+    }
+}
+
+/// Puts where the clocks come from, as far as that is known.
+fn put_origins(page: &mut Page, text: &Text<'_>, fault: &ClockFault) {
     let node = NodeText::named(text.bytes, fault.node.as_str());
     if let Some(clock) = &fault.found {
-        put_origin(page, text, clock, found_place(&node, fault, clock))?;
+        if let Some(place) = found_place(&node, fault, clock) {
+            put_origin(page, text, clock, place);
+        }
     }
     if let Some(clock) = &fault.wanted {
-        put_origin(page, text, clock, wanted_place(&node, fault, clock))?;
-    }
-    match fault.rule {
-        ClockRule::Argument(place) | ClockRule::ClockArgument(place) => {
-            put_input(page, alloc, text, fault, place)
+        if let Some(place) = wanted_place(&node, fault, clock) {
+            put_origin(page, text, clock, place);
         }
-        _ => Ok(()),
+    }
+    if let ClockRule::Argument(place) | ClockRule::ClockArgument(place) = fault.rule {
+        put_called_input(page, text, fault, place);
     }
 }
 
-/// Puts how to mend it, for common mistakes.
-fn put_mend(page: &mut String, fault: &ClockFault) -> Result<(), AllocError> {
-    match fault.rule {
-        ClockRule::Operand(_) | ClockRule::Left(_) | ClockRule::Argument(_) => page.push_str(
-            "help: `e when c` puts e on the clock of c, `current e` takes it off again\n",
-        ),
-        _ => Ok(()),
+/// How to mend it, for common mistakes; else empty.
+fn mend_of(rule: ClockRule) -> &'static str {
+    match rule {
+        ClockRule::Operand(_) | ClockRule::Left(_) | ClockRule::Argument(_) => {
+            "help: `e when c` puts e on the clock of c, `current e` takes it off again\n"
+        }
+        _ => "",
     }
 }
 
 /// Explains E10.
-pub fn explain_clock(
-    page: &mut String,
-    alloc: Global,
-    text: &Text<'_>,
-    fault: &ClockFault,
-) -> Result<(), AllocError> {
-    put_rule(page, text, fault)?;
-    put_marked(page, text, fault.offset)?;
-    put_origins(page, alloc, text, fault)?;
-    put_mend(page, fault)?;
-    put_path(page, text, &fault.path)
+pub fn explain_clock(page: &mut Page, text: &Text<'_>, fault: &ClockFault) {
+    put_rule(page, text, fault);
+    put_marked(page, text, fault.offset);
+    put_origins(page, text, fault);
+    page.put(mend_of(fault.rule));
+    put_path(page, text, &fault.path);
 }

@@ -1,14 +1,14 @@
 //! E14: a header that does not name the inputs.
 
 use crate::bytes::part;
-use crate::cells::{cell_of, input_named, is_padded, put_cell, put_other_separator, stretch_of};
+use crate::cells::{cell_of, is_padded, put_cell, separator_mend, stretch_of};
 use crate::excerpt::{put_excerpt, put_place};
 use crate::near::{Nearest, differ_in_case};
-use crate::quoted::{cell_at, end_of_record, width};
-use crate::records::{CellPlace, Cursor, Goal, find_record, start_of};
-use crate::texts::{Text, spot};
+use crate::page::Page;
+use crate::quoted::{CellPlace, cell_at, end_of_record, width};
+use crate::texts::spot;
+use lb_places::{Cursor, Goal, Text, find_record, input_named};
 use lb_static::Signature;
-use std::alloc::{AllocError, Global};
 
 /// The most names of a list that are shown.
 const MOST: usize = 6;
@@ -17,7 +17,6 @@ const MOST: usize = 6;
 const MOST_WANTED: u32 = 12;
 
 /// The header of a text: its first cell, and the cells behind that.
-#[derive(Drop)]
 struct Header {
     start: Cursor,
     /// The names behind the first cell.
@@ -25,21 +24,43 @@ struct Header {
     first: Vec<u8>,
 }
 
-/// The header of a text, if there is one.
-fn header_of(alloc: Global, text: &[u8]) -> Result<Option<Header>, AllocError> {
-    let Some(start) = find_record(text, &start_of(text), &Goal::Number(0)) else {
-        return Ok(None);
-    };
-    let mut names = Vec::new(alloc);
-    for place in 1..width(text, start.at) {
-        names.push(cell_of(alloc, text, start.at, place)?)?;
+// Not derived, so that it is dropped in one step.
+impl Drop for Header {
+    fn drop(self) {
+        let Header {
+            start: _,
+            names: _,
+            first: _,
+        } = self;
     }
-    let first = cell_of(alloc, text, start.at, 0)?;
-    Ok(Some(Header {
+}
+
+impl Header {
+    /// The name of a column, from 0 on for the first cell; empty where there is none.
+    fn name_at(&self, column: usize) -> &[u8] {
+        if column == 0 {
+            return self.first.as_slice();
+        }
+        match self.names.get(column.saturating_sub(1)) {
+            Some(name) => name.as_slice(),
+            None => b"",
+        }
+    }
+}
+
+/// The header of a text that begins at `start`. Where memory runs out the page is cut.
+fn header_at(page: &mut Page, text: &[u8], start: Cursor) -> Header {
+    let mut names = Vec::new(page.alloc());
+    for place in 1..width(text, start.at) {
+        let name = cell_of(page, text, start.at, place);
+        page.cut_if(names.push(name).is_err());
+    }
+    let first = cell_of(page, text, start.at, 0);
+    Header {
         start,
         names,
         first,
-    }))
+    }
 }
 
 /// Whether one of the names is this one.
@@ -79,201 +100,170 @@ fn first_fault(signature: &Signature, header: &Header) -> Option<(usize, Fault)>
 }
 
 /// Puts the names of inputs that no column has, if there are any.
-fn put_missing(
-    page: &mut String,
-    signature: &Signature,
-    header: &Header,
-) -> Result<(), AllocError> {
+fn put_missing(page: &mut Page, signature: &Signature, header: &Header) {
     let mut found: usize = 0;
     for i in 0..signature.len() {
         let name = signature.name(i);
         if !has_name(header.names.as_slice(), name.as_bytes()) {
-            put_listed(page, "missing: ", found, name)?;
+            page.put(part_of_list("missing: ", found));
+            if found < MOST {
+                page.put(name);
+            }
             found = found.saturating_add(1);
         }
     }
-    end_list(page, found)
+    end_list(page, found);
 }
 
-/// Puts the next name of a list, which shows `found` names so far: `word` stands before the first
-/// one, and nothing is put where the list is full.
-fn put_listed(page: &mut String, word: &str, found: usize, name: &str) -> Result<(), AllocError> {
+/// What stands before the next name of a list, which has `found` names so far: `word` before the
+/// first one, and nothing where the list is full.
+fn part_of_list(word: &'static str, found: usize) -> &'static str {
     if found == 0 {
-        return write!(page, "{word}{name}");
+        word
+    } else if found < MOST {
+        ", "
+    } else {
+        ""
     }
-    if found < MOST {
-        return write!(page, ", {name}");
-    }
-    Ok(())
 }
 
 /// Ends the line of a list of `found` names, with the number of names that it does not show.
-fn end_list(page: &mut String, found: usize) -> Result<(), AllocError> {
-    if found == 0 {
-        return Ok(());
-    }
+fn end_list(page: &mut Page, found: usize) {
     if found > MOST {
         let more = found.saturating_sub(MOST);
-        write!(page, " and {more} more")?;
+        page.put_number_in(" and ", more as u64, " more");
     }
-    page.push('\n')
+    page.put(if found > 0 { "\n" } else { "" });
 }
 
 /// Puts the names of columns that are no inputs, if there are any.
-fn put_unknown(
-    page: &mut String,
-    signature: &Signature,
-    header: &Header,
-) -> Result<(), AllocError> {
+fn put_unknown(page: &mut Page, signature: &Signature, header: &Header) {
     let mut found: usize = 0;
     for name in &header.names {
         if input_named(signature, name.as_slice()).is_none() {
-            if found == 0 {
-                page.push_str("unknown: ")?;
-            } else if found < MOST {
-                page.push_str(", ")?;
-            }
+            page.put(part_of_list("unknown: ", found));
             if found < MOST {
-                put_cell(page, name.as_slice())?;
+                put_cell(page, name.as_slice());
             }
             found = found.saturating_add(1);
         }
     }
-    end_list(page, found)
+    end_list(page, found);
 }
 
 /// Puts the input that an unknown column may be meant for.
-fn put_nearest(page: &mut String, signature: &Signature, name: &[u8]) -> Result<(), AllocError> {
+fn put_nearest(page: &mut Page, signature: &Signature, name: &[u8]) {
     let mut nearest = Nearest::to(name);
     for i in 0..signature.len() {
         nearest.offer(name, signature.name(i).as_bytes());
     }
-    let Some(other) = nearest.name else {
-        return Ok(());
-    };
-    page.push_str("help: a similar input is ")?;
-    put_cell(page, other)?;
-    if differ_in_case(name, other) {
-        page.push_str("; case counts")?;
+    if let Some(other) = nearest.name {
+        page.put("help: a similar input is ");
+        put_cell(page, other);
+        page.put(if differ_in_case(name, other) {
+            "; case counts\n"
+        } else {
+            "\n"
+        });
     }
-    page.push('\n')
 }
 
 /// Puts how to mend a wrong column.
-fn put_mend(
-    page: &mut String,
-    signature: &Signature,
-    fault: Fault,
-    name: &[u8],
-) -> Result<(), AllocError> {
+fn put_mend(page: &mut Page, signature: &Signature, fault: Fault, name: &[u8]) {
     if is_padded(name) {
-        return page.push_str("help: no space may stand beside a name\n");
+        return page.put("help: no space may stand beside a name\n");
     }
     match fault {
         Fault::Unknown => put_nearest(page, signature, name),
-        Fault::First if differ_in_case(name, b"trace") => page.push_str("help: case counts\n"),
-        Fault::First | Fault::Doubled => Ok(()),
+        Fault::First if differ_in_case(name, b"trace") => page.put("help: case counts\n"),
+        Fault::First | Fault::Doubled => {}
     }
 }
 
 /// Puts what is wrong with a column.
-fn put_fault(page: &mut String, fault: Fault, name: &[u8]) -> Result<(), AllocError> {
-    match fault {
-        Fault::First => page.push_str("the first column has to be `trace`, and is ")?,
-        Fault::Unknown => page.push_str("no input of the node under test is ")?,
-        Fault::Doubled => page.push_str("two columns are ")?,
-    }
-    put_cell(page, name)?;
-    page.push('\n')
+fn put_fault(page: &mut Page, fault: Fault, name: &[u8]) {
+    page.put(match fault {
+        Fault::First => "the first column has to be `trace`, and is ",
+        Fault::Unknown => "no input of the node under test is ",
+        Fault::Doubled => "two columns are ",
+    });
+    put_cell(page, name);
+    page.put("\n");
 }
 
 /// The bytes to mark: the cell of the wrong column, or the whole header where there is none.
-fn marked(text: &[u8], header: &Header, column: Option<usize>) -> CellPlace {
+fn marked(text: &[u8], header: &Header, fault: Option<(usize, Fault)>) -> CellPlace {
     let whole = CellPlace {
         start: header.start.at,
         end: end_of_record(text, header.start.at),
     };
-    match column {
-        Some(place) => match cell_at(text, header.start.at, place) {
-            Some(cell) => cell,
-            None => whole,
-        },
+    match fault {
+        Some((column, _)) => cell_at(text, header.start.at, column).unwrap_or(whole),
         None => whole,
     }
 }
 
 /// Puts what is wrong with a header, and its line with marks.
-fn put_header(
-    page: &mut String,
-    alloc: Global,
-    text: &Text<'_>,
-    header: &Header,
-    fault: Option<(usize, Fault)>,
-) -> Result<(), AllocError> {
-    let column = match &fault {
-        Some((place, _)) => Some(*place),
-        None => None,
-    };
-    let found = marked(text.bytes, header, column);
+fn put_header(page: &mut Page, text: &Text<'_>, header: &Header, fault: Option<(usize, Fault)>) {
+    let found = marked(text.bytes, header, fault);
     let place = stretch_of(text, &header.start, found.start, found.end);
-    put_place(page, text, &place, "error")?;
+    put_place(page, text, &place, "error");
     match fault {
-        Some((column, fault)) => {
-            let name = cell_of(alloc, text.bytes, header.start.at, column)?;
-            put_fault(page, fault, name.as_slice())?;
-        }
-        None => page.push_str("the header lacks an input\n")?,
+        Some((column, fault)) => put_fault(page, fault, header.name_at(column)),
+        None => page.put("the header lacks an input\n"),
     }
-    put_excerpt(page, text, &place)
+    put_excerpt(page, text, &place);
 }
 
 /// Puts the missing and the unknown names, and how to mend the header.
 fn put_lists(
-    page: &mut String,
-    alloc: Global,
+    page: &mut Page,
     text: &[u8],
     signature: &Signature,
     header: &Header,
     fault: Option<(usize, Fault)>,
-) -> Result<(), AllocError> {
-    put_missing(page, signature, header)?;
-    put_unknown(page, signature, header)?;
+) {
+    put_missing(page, signature, header);
+    put_unknown(page, signature, header);
     let end = end_of_record(text, header.start.at);
-    put_other_separator(page, part(text, header.start.at, end))?;
+    page.put(separator_mend(part(text, header.start.at, end)));
     if let Some((column, fault)) = fault {
-        let name = cell_of(alloc, text, header.start.at, column)?;
-        put_mend(page, signature, fault, name.as_slice())?;
+        put_mend(page, signature, fault, header.name_at(column));
     }
-    put_wanted(page, signature)
+    put_wanted(page, signature);
 }
 
 /// Puts a right header, with at most `MOST_WANTED` inputs.
-fn put_wanted(page: &mut String, signature: &Signature) -> Result<(), AllocError> {
-    page.push_str("wanted: trace")?;
+fn put_wanted(page: &mut Page, signature: &Signature) {
+    page.put("wanted: trace");
     for i in 0..signature.len().min(MOST_WANTED) {
-        let name = signature.name(i);
-        write!(page, ",{name}")?;
+        page.put_in(",", signature.name(i), "");
     }
-    if signature.len() > MOST_WANTED {
-        page.push_str(",..")?;
-    }
-    page.push_str(", the inputs in any order\n")
+    page.put(if signature.len() > MOST_WANTED {
+        ",.., the inputs in any order\n"
+    } else {
+        ", the inputs in any order\n"
+    });
+}
+
+/// Puts the explanation of E14 for a text that has a header.
+fn explain_names(page: &mut Page, text: &Text<'_>, signature: &Signature, header: &Header) {
+    let fault = first_fault(signature, header);
+    put_header(page, text, header, fault);
+    put_lists(page, text.bytes, signature, header, fault);
 }
 
 /// Explains E14.
-pub fn explain_header(
-    page: &mut String,
-    alloc: Global,
-    text: &Text<'_>,
-    signature: &Signature,
-) -> Result<(), AllocError> {
-    let Some(header) = header_of(alloc, text.bytes)? else {
-        let place = spot(text, 0, 0);
-        put_place(page, text, &place, "error")?;
-        page.push_str("there is no header: the text of the traces is empty\n")?;
-        return put_wanted(page, signature);
-    };
-    let fault = first_fault(signature, &header);
-    put_header(page, alloc, text, &header, fault)?;
-    put_lists(page, alloc, text.bytes, signature, &header, fault)
+pub fn explain_header(page: &mut Page, text: &Text<'_>, signature: &Signature) {
+    match find_record(text.bytes, &Goal::Number(0)) {
+        Some(start) => {
+            let header = header_at(page, text.bytes, start);
+            explain_names(page, text, signature, &header);
+        }
+        None => {
+            put_place(page, text, &spot(text, 0, 0), "error");
+            page.put("there is no header: the text of the traces is empty\n");
+            put_wanted(page, signature);
+        }
+    }
 }

@@ -1,72 +1,67 @@
 //! E13: elements that need themselves at the same instant.
 
 use crate::marking::{put_marked, token_spot};
+use crate::page::Page;
 use crate::paths::put_path;
-use crate::texts::Text;
 use lb_flat::{Cycle, CyclePlace};
-use std::alloc::AllocError;
+use lb_places::Text;
 
 /// The most elements that are shown, and the number of them in one line.
 const MOST: usize = 27;
 
 const IN_LINE: usize = 3;
 
-/// Puts the words between element `place` of a cycle and the element before it.
-fn put_joint(page: &mut String, place: usize) -> Result<(), AllocError> {
+/// The words between element `place` of a cycle and the element before it.
+fn joint(place: usize) -> &'static str {
     match place {
-        0 => Ok(()),
-        1 => page.push_str(" needs "),
-        _ if place % IN_LINE == 0 => page.push_str(",\nwhich needs "),
-        _ => page.push_str(", which needs "),
+        0 => "",
+        1 => " needs ",
+        _ if place % IN_LINE == 0 => ",\nwhich needs ",
+        _ => ", which needs ",
     }
 }
 
 /// Puts an element and its place, as `x (12:3)`.
-fn put_element(page: &mut String, text: &Text<'_>, element: &CyclePlace) -> Result<(), AllocError> {
-    let name = element.name.as_str();
+fn put_element(page: &mut Page, text: &Text<'_>, element: &CyclePlace) {
     let place = token_spot(text, element.offset);
-    let (line, column) = (place.line, place.column);
-    write!(page, "{name} ({line}:{column})")
+    page.put(element.name.as_str());
+    page.put_number_in(" (", place.line, ":");
+    page.put_number_in("", place.column as u64, ")");
 }
 
 /// Puts that the last element needs the first, or how many elements are not shown.
-fn put_closing(page: &mut String, cycle: &Cycle, first: &str) -> Result<(), AllocError> {
+fn put_closing(page: &mut Page, cycle: &Cycle, first: &str) {
     let more = cycle.places.len().saturating_sub(MOST);
     if more > 0 {
-        return write!(page, ",\nand so on over {more} more to {first}\n");
+        page.put_number_in(",\nand so on over ", more as u64, " more to ");
+    } else {
+        page.put(joint(cycle.places.len()));
     }
-    put_joint(page, cycle.places.len())?;
-    write!(page, "{first}\n")
+    page.put_in("", first, "\n");
 }
 
 /// Puts each element with what it needs, as `x (12:3) needs y (13:3), which needs x`.
-fn put_elements(
-    page: &mut String,
-    text: &Text<'_>,
-    cycle: &Cycle,
-    first: &str,
-) -> Result<(), AllocError> {
+fn put_elements(page: &mut Page, text: &Text<'_>, cycle: &Cycle, first: &str) {
     for (place, element) in cycle.places.iter().enumerate() {
         if place < MOST {
-            put_joint(page, place)?;
-            put_element(page, text, element)?;
+            page.put(joint(place));
+            put_element(page, text, element);
         }
     }
-    put_closing(page, cycle, first)
+    put_closing(page, cycle, first);
 }
 
 /// Explains E13.
-pub fn explain_cycle(page: &mut String, text: &Text<'_>, cycle: &Cycle) -> Result<(), AllocError> {
+pub fn explain_cycle(page: &mut Page, text: &Text<'_>, cycle: &Cycle) {
     let Some(first) = cycle.places.first() else {
-        return Ok(());
+        return;
     };
     let name = first.name.as_str();
-    write!(page, "`{name}` needs itself at the same instant\n")?;
-    put_marked(page, text, first.offset)?;
-    put_elements(page, text, cycle, name)?;
-    page.push_str("help: `pre` or `fby` takes a value of the instant before\n")?;
-    match cycle.instances.get(first.instance) {
-        Some(path) => put_path(page, text, path),
-        None => Ok(()),
+    page.put_in("`", name, "` needs itself at the same instant\n");
+    put_marked(page, text, first.offset);
+    put_elements(page, text, cycle, name);
+    page.put("help: `pre` or `fby` takes a value of the instant before\n");
+    if let Some(path) = cycle.instances.get(first.instance) {
+        put_path(page, text, path);
     }
 }

@@ -6,8 +6,9 @@
 //! ```
 
 use crate::bytes::{continues, part};
-use crate::texts::{Stretch, Text, line_at};
-use std::alloc::AllocError;
+use crate::page::Page;
+use crate::texts::{Stretch, line_at};
+use lb_places::Text;
 
 /// The most columns of a line that are shown.
 const WIDTH: usize = 80;
@@ -26,43 +27,44 @@ fn plain_char(b: u8) -> char {
 }
 
 /// Puts bytes as text, so that each character takes one column.
-pub fn put_bytes(page: &mut String, bytes: &[u8]) -> Result<(), AllocError> {
+pub fn put_bytes(page: &mut Page, bytes: &[u8]) {
     match std::str::from_utf8(bytes) {
         Ok(text) => put_text(page, text),
         Err(_) => put_ascii(page, bytes),
     }
 }
 
-/// Puts a text, with `?` for each control character.
-fn put_text(page: &mut String, text: &str) -> Result<(), AllocError> {
-    for c in text.chars() {
-        if c == '\t' {
-            page.push(' ')?;
-        } else if c.is_control() || c == BYTE_ORDER_MARK {
-            page.push('?')?;
-        } else {
-            page.push(c)?;
-        }
+/// The character that is shown for a character of a text: `?` for a control character.
+fn shown_char(c: char) -> char {
+    match c {
+        '\t' => ' ',
+        BYTE_ORDER_MARK => '?',
+        _ if c.is_control() => '?',
+        _ => c,
     }
-    Ok(())
+}
+
+/// Puts a text, with `?` for each control character.
+fn put_text(page: &mut Page, text: &str) {
+    for c in text.chars() {
+        page.put_letter(shown_char(c));
+    }
 }
 
 /// Puts bytes that are not UTF-8, with `?` for each character outside of ASCII.
-fn put_ascii(page: &mut String, bytes: &[u8]) -> Result<(), AllocError> {
+fn put_ascii(page: &mut Page, bytes: &[u8]) {
     for b in bytes {
         if !continues(*b) {
-            page.push(plain_char(*b))?;
+            page.put_letter(plain_char(*b));
         }
     }
-    Ok(())
 }
 
 /// Puts `times` copies of a character.
-pub fn put_times(page: &mut String, c: char, times: usize) -> Result<(), AllocError> {
+pub fn put_times(page: &mut Page, c: char, times: usize) {
     for _time in 0..times {
-        page.push(c)?;
+        page.put_letter(c);
     }
-    Ok(())
 }
 
 /// The number of columns that bytes take.
@@ -138,37 +140,37 @@ fn margin(line: u64) -> usize {
 }
 
 /// Puts the margin with the number of a line.
-fn put_margin(page: &mut String, line: u64) -> Result<(), AllocError> {
-    put_times(page, ' ', margin(line).saturating_sub(digits(line)))?;
-    write!(page, "{line} | ")
+fn put_margin(page: &mut Page, line: u64) {
+    put_times(page, ' ', margin(line).saturating_sub(digits(line)));
+    page.put_number_in("", line, " | ");
 }
 
 /// Puts the line of a stretch, and marks below the stretch.
-pub fn put_excerpt(page: &mut String, text: &Text<'_>, spot: &Stretch) -> Result<(), AllocError> {
+pub fn put_excerpt(page: &mut Page, text: &Text<'_>, spot: &Stretch) {
     let line = line_at(text.bytes, spot.line_start);
     let at = spot.start.saturating_sub(spot.line_start).min(line.len());
     let shown = whole_window(line, at);
-    put_margin(page, spot.line)?;
-    put_bytes(page, part(line, shown.from, shown.to))?;
-    page.push('\n')?;
+    put_margin(page, spot.line);
+    put_bytes(page, part(line, shown.from, shown.to));
+    page.put("\n");
     let end = spot.end.saturating_sub(spot.line_start).min(shown.to);
     let marks = columns(part(line, at, end)).max(1);
-    put_times(page, ' ', margin(spot.line))?;
-    page.push_str(" | ")?;
-    put_times(page, ' ', columns(part(line, shown.from, at)))?;
-    put_times(page, '^', marks)?;
-    page.push('\n')
+    put_times(page, ' ', margin(spot.line));
+    page.put(" | ");
+    put_times(page, ' ', columns(part(line, shown.from, at)));
+    put_times(page, '^', marks);
+    page.put("\n");
 }
 
-/// Puts the place and a word, as `pump.lus:14:13: error: `.
-pub fn put_place(
-    page: &mut String,
-    text: &Text<'_>,
-    spot: &Stretch,
-    word: &str,
-) -> Result<(), AllocError> {
-    let name = text.name;
-    let line = spot.line;
-    let column = spot.column;
-    write!(page, "{name}:{line}:{column}: {word}: ")
+/// Puts the place of a stretch, as `pump.lus:14:13`.
+pub fn put_spot(page: &mut Page, text: &Text<'_>, spot: &Stretch) {
+    page.put(text.name);
+    page.put_number_in(":", spot.line, ":");
+    page.put_number(spot.column as u64);
+}
+
+/// Puts the place of a stretch and a word, as `pump.lus:14:13: error: `.
+pub fn put_place(page: &mut Page, text: &Text<'_>, spot: &Stretch, word: &str) {
+    put_spot(page, text, spot);
+    page.put_in(": ", word, ": ");
 }

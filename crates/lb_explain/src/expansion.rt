@@ -3,9 +3,10 @@
 use crate::counts::put_count;
 use crate::declared::node_named;
 use crate::excerpt::{put_excerpt, put_place};
-use crate::texts::{Stretch, Text, spot};
+use crate::page::Page;
+use crate::texts::{Stretch, spot};
 use lb_expand::SizeFault;
-use std::alloc::AllocError;
+use lb_places::Text;
 
 /// The place of the name of a node, or else the start of the text.
 fn node_spot(text: &Text<'_>, node: &str) -> Stretch {
@@ -16,28 +17,21 @@ fn node_spot(text: &Text<'_>, node: &str) -> Stretch {
 }
 
 /// Puts how large a program is.
-fn put_size(page: &mut String, fault: &SizeFault) -> Result<(), AllocError> {
-    page.push_str("expanded, the program has ")?;
-    if fault.is_least {
-        page.push_str("at least ")?;
-    }
-    let limit = fault.limit;
-    put_count(page, fault.size as usize, "scalar element")?;
-    write!(page, "; at most {limit} are run\n")
+fn put_size(page: &mut Page, fault: &SizeFault) {
+    page.put(if fault.is_least {
+        "expanded, the program has at least "
+    } else {
+        "expanded, the program has "
+    });
+    put_count(page, fault.size as usize, "scalar element");
+    page.put_number_in("; at most ", u64::from(fault.limit), " are run\n");
 }
 
 /// Explains E12 for the size of the program of a node under test.
-pub fn explain_large(
-    page: &mut String,
-    text: &Text<'_>,
-    node: &str,
-    fault: &SizeFault,
-) -> Result<(), AllocError> {
+pub fn explain_large(page: &mut Page, text: &Text<'_>, node: &str, fault: &SizeFault) {
     let place = node_spot(text, node);
-    put_place(page, text, &place, "error")?;
-    put_size(page, fault)?;
-    put_excerpt(page, text, &place)?;
-    page.push_str(
-        "help: each instance counts each variable and each expression, with all elements\n",
-    )
+    put_place(page, text, &place, "error");
+    put_size(page, fault);
+    put_excerpt(page, text, &place);
+    page.put("help: each instance counts each variable and each expression, with all elements\n");
 }

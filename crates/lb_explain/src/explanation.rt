@@ -2,18 +2,18 @@
 
 ghost use Rattle.std.specs.Prelude.{◌<◌, length, IfOk, IfSome};
 ghost use Rattle.std.specs.Io.{StartsWith};
-ghost use Rattle.lb_explain.specs.FirstPlaces as spec;
+ghost use Rattle.lb_places.specs.FirstPlaces as spec;
 
 use crate::cells::{explain_cell, explain_length};
 use crate::characters::explain_character;
 use crate::columns::explain_header;
-use crate::first_places::head_of;
+use crate::page::Page;
 use crate::program_errors::explain_program;
 use crate::sizes::explain_size;
 use crate::syntax::explain_syntax;
-use crate::texts::Text;
 use crate::trace_limits::explain_limit;
 use crate::trace_names::explain_trace_name;
+use lb_places::{Text, head_of};
 use lb_refusal::{BenchError, Options};
 use lb_static::{Signature, elaborate};
 use lb_syntax::{SyntaxError, parse};
@@ -26,92 +26,68 @@ const MOST_LINES: usize = 19;
 /// The two texts that were judged, and the options of the run.
 #[derive(Drop)]
 struct Subject<'a> {
-    alloc: Global,
     source: &'a Text<'a>,
     traces: &'a Text<'a>,
     options: &'a Options,
 }
 
 /// Explains E1, E2 or E3.
-fn explain_syntax_error(
-    page: &mut String,
-    alloc: Global,
-    text: &Text<'_>,
-    error: &SyntaxError,
-) -> Result<(), AllocError> {
+fn explain_syntax_error(page: &mut Page, text: &Text<'_>, error: &SyntaxError) {
     match error {
-        SyntaxError::Memory => Ok(()),
+        SyntaxError::Memory => {}
         SyntaxError::Character { line, column } => explain_character(page, text, *line, *column),
-        SyntaxError::Syntax { line, column } => {
-            explain_syntax(page, alloc, text, *line, *column)
-        }
+        SyntaxError::Syntax { line, column } => explain_syntax(page, text, *line, *column),
         SyntaxError::Size { line, column } => explain_size(page, text, *line, *column),
     }
 }
 
-/// The inputs of the node under test of a source that was accepted.
-fn signature_of(
-    alloc: Global,
-    source: &[u8],
-    options: &Options,
-) -> Result<Option<Signature>, AllocError> {
-    let Ok(tree) = parse(alloc, source) else {
-        return Ok(None);
-    };
-    match elaborate(alloc, &tree, options.node.as_str(), options.observer_name()) {
-        Ok(elab) => Ok(Some(elab.signature().copy(alloc)?)),
-        Err(_) => Ok(None),
-    }
-}
-
-/// Explains E14 or E16, which need the inputs of the node under test.
+/// Explains E14 or E16 by the inputs of the node under test.
 fn explain_under_signature(
-    page: &mut String,
-    alloc: Global,
+    page: &mut Page,
     text: &Text<'_>,
     signature: &Signature,
     error: &TraceError,
-) -> Result<(), AllocError> {
+) {
     match error {
-        TraceError::Header => explain_header(page, alloc, text, signature),
+        TraceError::Header => explain_header(page, text, signature),
         TraceError::Cell { record, column } => {
-            explain_cell(page, alloc, text, signature, *record, *column)
+            explain_cell(page, text, signature, *record, *column);
         }
-        _ => Ok(()),
+        _ => {}
+    }
+}
+
+/// Explains E14 or E16, which need the inputs of the node under test: the source was accepted.
+fn explain_by_inputs(page: &mut Page, subject: &Subject<'_>, error: &TraceError) {
+    let alloc = page.alloc();
+    let options = subject.options;
+    let Ok(tree) = parse(alloc, subject.source.bytes) else {
+        return;
+    };
+    if let Ok(elab) = elaborate(alloc, &tree, options.node.as_str(), options.observer_name()) {
+        explain_under_signature(page, subject.traces, elab.signature(), error);
     }
 }
 
 /// Explains E14 to E18.
-fn explain_trace_error(
-    page: &mut String,
-    subject: &Subject<'_>,
-    error: &TraceError,
-) -> Result<(), AllocError> {
-    let alloc = subject.alloc;
+fn explain_trace_error(page: &mut Page, subject: &Subject<'_>, error: &TraceError) {
     let text = subject.traces;
     match error {
-        TraceError::Memory(_) => Ok(()),
-        TraceError::Header | TraceError::Cell { .. } => {
-            let source = subject.source.bytes;
-            match signature_of(alloc, source, subject.options)? {
-                Some(signature) => explain_under_signature(page, alloc, text, &signature, error),
-                None => Ok(()),
-            }
-        }
-        TraceError::Record { record, .. } => explain_length(page, alloc, text, *record),
-        TraceError::Trace { record } => explain_trace_name(page, alloc, text, *record),
-        TraceError::Limit { record } => explain_limit(page, alloc, text, *record),
+        TraceError::Memory(_) => {}
+        TraceError::Header | TraceError::Cell { .. } => explain_by_inputs(page, subject, error),
+        TraceError::Record { record, .. } => explain_length(page, text, *record),
+        TraceError::Trace { record } => explain_trace_name(page, text, *record),
+        TraceError::Limit { record } => explain_limit(page, text, *record),
     }
 }
 
 /// Puts the explanation of an error, except for the place that it begins with.
-fn put_all(page: &mut String, subject: &Subject<'_>, error: &BenchError) -> Result<(), AllocError> {
-    let alloc = subject.alloc;
+fn put_all(page: &mut Page, subject: &Subject<'_>, error: &BenchError) {
     let source = subject.source;
     match error {
-        BenchError::Syntax(cause) => explain_syntax_error(page, alloc, source, cause),
+        BenchError::Syntax(cause) => explain_syntax_error(page, source, cause),
         BenchError::Trace(cause) => explain_trace_error(page, subject, cause),
-        _ => explain_program(page, alloc, source, subject.options, error),
+        _ => explain_program(page, source, subject.options, error),
     }
 }
 
@@ -153,15 +129,15 @@ pub fn explain(
         IfSome (spec.place_in source.now.bytes.now error.now) (λ p.
         StartsWith lines.items (spec.head source.now.name.now p.0 p.1))) }
 {
-    let mut page = String::new(alloc);
+    let mut page = Page::new(alloc);
     let subject = Subject {
-        alloc,
         source,
         traces,
         options,
     };
-    put_all(&mut page, &subject, error)?;
+    put_all(&mut page, &subject, error);
+    let further = first_lines(page.whole()?);
     let mut lines = head_of(alloc, source, error)?;
-    lines.extend_from_slice(first_lines(page.as_bytes()))?;
+    lines.extend_from_slice(further)?;
     Ok(lines)
 }

@@ -3,9 +3,22 @@
 //! The records of a trace stand together. So where no byte before a record is a quote, the lines
 //! before it are counted from the last one back, and the text is not read again from its start.
 
-use crate::bytes::byte_at;
-use crate::quoted::{ends_line, first_cell_is};
-use crate::records::{Cursor, Goal, find_record, start_of};
+use crate::bytes::{byte_at, rest};
+use lb_places::{Cursor, Goal, find_record};
+
+/// Whether a byte ends a line.
+fn ends_line(b: u8) -> bool {
+    b == b'\n' || b == b'\r'
+}
+
+/// Whether the line that begins at a place begins with a cell of this name. It has no quotes.
+fn is_of_trace(text: &[u8], start: usize, name: &[u8]) -> bool {
+    match rest(text, start).strip_prefix(name) {
+        Some([b, ..]) => *b == b',' || ends_line(*b),
+        Some([]) => true,
+        None => false,
+    }
+}
 
 /// The end of the last line before a place that is not empty; 0 where there is none.
 fn end_before(text: &[u8], at: usize) -> usize {
@@ -35,7 +48,7 @@ fn lines_back(text: &[u8], record: &Cursor, name: &[u8]) -> u64 {
     let mut at = record.at;
     for _earlier in 1..record.records {
         at = start_before(text, end_before(text, at));
-        if !first_cell_is(text, at, name) {
+        if !is_of_trace(text, at, name) {
             return instant;
         }
         instant = instant.saturating_add(1);
@@ -48,7 +61,7 @@ pub fn instant_of(text: &[u8], record: &Cursor, name: &[u8]) -> u64 {
     if !record.has_quote {
         return lines_back(text, record, name);
     }
-    match find_record(text, &start_of(text), &Goal::Name(name)) {
+    match find_record(text, &Goal::Name(name)) {
         Some(first) => record.records.saturating_sub(first.records),
         None => 0,
     }

@@ -3,7 +3,8 @@
 use crate::bytes::part;
 use crate::declared::node_named;
 use crate::lexeme::{Lexeme, Sort, token_at};
-use std::alloc::{AllocError, Global};
+use crate::page::Page;
+use std::alloc::Global;
 
 /// An input or an output: its name, and the start and the end of its type.
 #[derive(Clone, Copy)]
@@ -21,10 +22,19 @@ impl Parameter {
 }
 
 /// The inputs and outputs of a node.
-#[derive(Drop)]
 pub struct Interface {
     pub inputs: Vec<Parameter>,
     pub outputs: Vec<Parameter>,
+}
+
+// Not derived, so that it is dropped in one step.
+impl Drop for Interface {
+    fn drop(self) {
+        let Interface {
+            inputs: _,
+            outputs: _,
+        } = self;
+    }
 }
 
 /// A list of variables that is being read.
@@ -38,6 +48,8 @@ struct List {
     nested: usize,
     /// Whether the type has ended, and its clock is being read.
     in_clock: bool,
+    /// Whether memory ran out, so that variables are missing.
+    is_cut: bool,
 }
 
 impl List {
@@ -49,7 +61,18 @@ impl List {
             in_type: false,
             nested: 0,
             in_clock: false,
+            is_cut: false,
         }
+    }
+
+    /// Adds a variable, whose type is not read yet.
+    fn push(&mut self, name: &Lexeme) {
+        let added = self.found.push(Parameter {
+            name: *name,
+            type_start: 0,
+            type_end: 0,
+        });
+        self.is_cut |= added.is_err();
     }
 
     /// Extends the type of the variables whose type is being read.
@@ -85,7 +108,7 @@ impl List {
     }
 
     /// Takes a token of the list.
-    fn take(&mut self, text: &[u8], token: &Lexeme) -> Result<(), AllocError> {
+    fn take(&mut self, text: &[u8], token: &Lexeme) {
         if self.in_type {
             if self.nested == 0 && token.is(text, b";".as_slice()) {
                 self.end_type();
@@ -93,15 +116,10 @@ impl List {
                 self.take_inner(text, token);
             }
         } else if token.sort == Sort::Name {
-            self.found.push(Parameter {
-                name: *token,
-                type_start: 0,
-                type_end: 0,
-            })?;
+            self.push(token);
         } else if token.is(text, b":".as_slice()) {
             self.in_type = true;
         }
-        Ok(())
     }
 }
 
@@ -119,45 +137,46 @@ fn opening(text: &[u8], from: usize) -> usize {
 }
 
 /// Reads the list that begins at a place, and returns the place behind its `)`.
-fn read_list(text: &[u8], from: usize, list: &mut List) -> Result<usize, AllocError> {
+fn read_list(text: &[u8], from: usize, list: &mut List) -> usize {
     let mut at = from;
     for _turn in from..text.len() {
         let token = token_at(text, at);
         at = token.end;
         let ends = list.nested == 0 && token.is(text, b")".as_slice());
         if ends || token.sort == Sort::End {
-            return Ok(at);
+            return at;
         }
-        list.take(text, &token)?;
+        list.take(text, &token);
     }
-    Ok(at)
+    at
 }
 
-/// The inputs and outputs of the node with a name, if there is one.
-pub fn interface_of(
-    alloc: Global,
-    text: &[u8],
-    name: &[u8],
-) -> Result<Option<Interface>, AllocError> {
-    let Some(start) = node_named(text, name) else {
-        return Ok(None);
-    };
-    let mut inputs = List::new(alloc);
-    let mut outputs = List::new(alloc);
-    let after = read_list(text, opening(text, start), &mut inputs)?;
-    let _end = read_list(text, opening(text, after), &mut outputs)?;
-    Ok(Some(Interface {
-        inputs: inputs.found,
-        outputs: outputs.found,
-    }))
+/// The list behind the first `(` from a place on, and the place behind it. Where memory runs out
+/// the page is cut.
+fn list_behind(page: &mut Page, text: &[u8], from: usize) -> (Vec<Parameter>, usize) {
+    let mut list = List::new(page.alloc());
+    let end = read_list(text, opening(text, from), &mut list);
+    page.cut_if(list.is_cut);
+    (list.found, end)
+}
+
+/// The inputs and outputs of the node with a name, if there is one. Where memory runs out the page
+/// is cut.
+pub fn interface_of(page: &mut Page, text: &[u8], name: &[u8]) -> Option<Interface> {
+    let start = node_named(text, name)?;
+    let (inputs, after) = list_behind(page, text, start);
+    let (outputs, _end) = list_behind(page, text, after);
+    Some(Interface { inputs, outputs })
 }
 
 /// The parameter of the node under test that is wired to input `place` of an observer: the inputs
 /// of the node come first, and then its outputs.
 pub fn observed(interface: &Interface, place: usize) -> Option<Parameter> {
-    if place < interface.inputs.len() {
-        return interface.inputs.get(place).copied();
+    match interface.inputs.get(place) {
+        Some(input) => Some(*input),
+        None => {
+            let place = place.saturating_sub(interface.inputs.len());
+            interface.outputs.get(place).copied()
+        }
     }
-    let place = place.saturating_sub(interface.inputs.len());
-    interface.outputs.get(place).copied()
 }

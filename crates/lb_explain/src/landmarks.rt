@@ -4,8 +4,9 @@
 
 ghost use Rattle.std.specs.Prelude.{◌<◌, length};
 
-use crate::blocks::{BLOCK, letters_of, places_of};
 use crate::bytes::{part, rest};
+use lb_places::{BLOCK, places_of};
+use std::simd::prelude::*;
 
 /// The number of bytes among 32 that have two more of them behind.
 const STRIDE: usize = 30;
@@ -31,6 +32,16 @@ struct Marks {
     semicolons: u64,
     /// Letters and `_`.
     letters: u64,
+}
+
+/// A bit for each of the first 32 bytes: set where the byte is a letter.
+#[inline(always)]
+fn letters_of(block: &[u8]) -> u64
+    requires { 31 < length block.now }
+{
+    let small = u8x32::from_slice(block) | u8x32::splat(b' ');
+    let from_a = small - u8x32::splat(b'a');
+    from_a.simd_lt(u8x32::splat(26)).to_bitmask()
 }
 
 /// The bytes among 32 at which `let`, `tel`, `nod`, `con` and `fun` begin, as bits.

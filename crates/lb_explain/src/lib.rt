@@ -3,14 +3,12 @@
 //! `pump.lus:14:13: error: ..`, which editors can jump to, with the line of the text.
 #![tactic(auto)]
 
-mod blocks;
 mod bytes;
 mod calls;
 mod cells;
 mod characters;
 mod clock_places;
 mod clocks;
-mod colour;
 mod columns;
 mod context;
 mod counts;
@@ -20,7 +18,6 @@ mod definitions;
 mod excerpt;
 mod expansion;
 mod explanation;
-mod first_places;
 mod headings;
 mod instants;
 mod interfaces;
@@ -29,11 +26,10 @@ mod lexeme;
 mod marking;
 mod names;
 mod near;
+mod page;
 mod paths;
 mod program_errors;
 mod quoted;
-mod record_scan;
-mod records;
 mod roots;
 mod sizes;
 mod statements;
@@ -43,10 +39,7 @@ mod trace_limits;
 mod trace_names;
 mod types;
 mod values;
-mod wiring;
 mod words;
 
-pub use colour::Painted;
 pub use explanation::explain;
-pub use texts::Text;
-pub use wiring::wiring_warnings;
+pub use lb_places::{Painted, Text, wiring_warnings};

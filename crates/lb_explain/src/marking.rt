@@ -1,9 +1,10 @@
 //! Places that errors hold, as offsets of tokens in the source.
 
-use crate::excerpt::{put_excerpt, put_place};
+use crate::excerpt::{put_excerpt, put_place, put_spot};
 use crate::lexeme::{Lexeme, piece_at};
-use crate::texts::{Stretch, Text, spot};
-use std::alloc::AllocError;
+use crate::page::Page;
+use crate::texts::{Stretch, spot};
+use lb_places::Text;
 
 /// The token at an offset.
 pub fn token_of(text: &Text<'_>, offset: u32) -> Lexeme {
@@ -22,18 +23,16 @@ pub fn token_spot(text: &Text<'_>, offset: u32) -> Stretch {
 }
 
 /// Puts `pump.lus:14:13: note: ` for the token at an offset.
-pub fn put_note(page: &mut String, text: &Text<'_>, offset: u32) -> Result<(), AllocError> {
-    put_place(page, text, &token_spot(text, offset), "note")
+pub fn put_note(page: &mut Page, text: &Text<'_>, offset: u32) {
+    put_place(page, text, &token_spot(text, offset), "note");
 }
 
 /// Puts the line of the token at an offset, with marks below the token.
-pub fn put_marked(page: &mut String, text: &Text<'_>, offset: u32) -> Result<(), AllocError> {
-    put_excerpt(page, text, &token_spot(text, offset))
+pub fn put_marked(page: &mut Page, text: &Text<'_>, offset: u32) {
+    put_excerpt(page, text, &token_spot(text, offset));
 }
 
 /// Puts the place of the token at an offset, as `pump.lus:14:13`.
-pub fn put_where(page: &mut String, text: &Text<'_>, offset: u32) -> Result<(), AllocError> {
-    let place = token_spot(text, offset);
-    let (name, line, column) = (text.name, place.line, place.column);
-    write!(page, "{name}:{line}:{column}")
+pub fn put_where(page: &mut Page, text: &Text<'_>, offset: u32) {
+    put_spot(page, text, &token_spot(text, offset));
 }

@@ -4,10 +4,10 @@ use crate::counts::put_count;
 use crate::declared::{Sorts, nearest_of};
 use crate::excerpt::put_bytes;
 use crate::marking::{put_marked, put_note};
-use crate::texts::Text;
+use crate::page::Page;
 use crate::words::mend_of_word;
+use lb_places::Text;
 use lb_static::{NameFault, NameRule, Sought};
-use std::alloc::AllocError;
 
 /// The words for what was looked for.
 fn sought_word(sought: Sought) -> &'static str {
@@ -21,112 +21,73 @@ fn sought_word(sought: Sought) -> &'static str {
 
 /// The sorts of declared names that could be meant.
 fn sorts_of(sought: Sought) -> Sorts {
-    match sought {
-        Sought::Node => Sorts {
-            nodes: true,
-            variables: false,
-            constants: false,
-        },
-        Sought::Variable | Sought::Clock => Sorts {
-            nodes: false,
-            variables: true,
-            constants: false,
-        },
-        Sought::Value => Sorts {
-            nodes: false,
-            variables: true,
-            constants: true,
-        },
-        Sought::Constant => Sorts {
-            nodes: false,
-            variables: false,
-            constants: true,
-        },
+    Sorts {
+        nodes: matches!(sought, Sought::Node),
+        variables: matches!(sought, Sought::Variable | Sought::Clock | Sought::Value),
+        constants: matches!(sought, Sought::Value | Sought::Constant),
+    }
+}
+
+/// The name of the node that a name stands in; empty where it stands in none.
+fn node_of(fault: &NameFault) -> &str {
+    match &fault.node {
+        Some(node) => node.as_str(),
+        None => "",
     }
 }
 
 /// Puts the declared name that is nearest to one that is unknown, if one is near.
-fn put_nearest(
-    page: &mut String,
-    text: &Text<'_>,
-    fault: &NameFault,
-    sought: Sought,
-) -> Result<(), AllocError> {
-    let name = fault.name.as_str();
-    let mend = mend_of_word(name.as_bytes());
+fn put_nearest(page: &mut Page, text: &[u8], fault: &NameFault, sought: Sought) {
+    let name = fault.name.as_bytes();
+    let mend = mend_of_word(name);
     if !mend.is_empty() {
-        return write!(page, "help: {mend}\n");
+        return page.put_in("help: ", mend, "\n");
     }
-    let node = match &fault.node {
-        Some(node) => node.as_str(),
-        None => "",
-    };
-    match nearest_of(
-        text.bytes,
-        node.as_bytes(),
-        name.as_bytes(),
-        &sorts_of(sought),
-    ) {
-        Some(other) => {
-            page.push_str("help: a similar name is `")?;
-            put_bytes(page, other)?;
-            page.push_str("`\n")
-        }
-        None => Ok(()),
-    }
-}
-
-/// Puts the node that a name stands in.
-fn put_node(page: &mut String, fault: &NameFault) -> Result<(), AllocError> {
-    match &fault.node {
-        Some(node) => {
-            let node = node.as_str();
-            write!(page, "in node {node}\n")
-        }
-        None => Ok(()),
+    if let Some(other) = nearest_of(text, node_of(fault).as_bytes(), name, &sorts_of(sought)) {
+        page.put("help: a similar name is `");
+        put_bytes(page, other);
+        page.put("`\n");
     }
 }
 
 /// Puts the rule that is broken.
-fn put_rule(page: &mut String, fault: &NameFault) -> Result<(), AllocError> {
+fn put_rule(page: &mut Page, fault: &NameFault) {
     let name = fault.name.as_str();
     match fault.rule {
         NameRule::Unknown(sought) => {
-            let word = sought_word(sought);
-            write!(page, "{word} `{name}`\n")
+            page.put(sought_word(sought));
+            page.put_in(" `", name, "`\n");
         }
-        NameRule::Doubled { .. } => write!(page, "`{name}` is declared twice\n"),
+        NameRule::Doubled { .. } => page.put_in("`", name, "` is declared twice\n"),
         NameRule::Arguments { wanted, given } => {
-            write!(page, "`{name}` takes ")?;
-            put_count(page, wanted, "static argument")?;
-            write!(page, ", and is given {given}\n")
+            page.put_in("`", name, "` takes ");
+            put_count(page, wanted, "static argument");
+            page.put_number_in(", and is given ", given as u64, "\n");
         }
     }
 }
 
 /// Puts how to mend the fault, or the first declaration of the name, and the node.
-fn put_further(page: &mut String, text: &Text<'_>, fault: &NameFault) -> Result<(), AllocError> {
+fn put_further(page: &mut Page, text: &Text<'_>, fault: &NameFault) {
     match fault.rule {
-        NameRule::Unknown(sought) => put_nearest(page, text, fault, sought)?,
+        NameRule::Unknown(sought) => put_nearest(page, text.bytes, fault, sought),
         NameRule::Doubled { first } => {
-            put_note(page, text, first)?;
-            page.push_str("it is declared here first\n")?;
+            put_note(page, text, first);
+            page.put("it is declared here first\n");
         }
         NameRule::Arguments { .. } => {}
     }
-    put_node(page, fault)
+    if let Some(node) = &fault.node {
+        page.put_in("in node ", node.as_str(), "\n");
+    }
 }
 
 /// Explains E4.
-pub fn explain_name(
-    page: &mut String,
-    text: &Text<'_>,
-    fault: &NameFault,
-) -> Result<(), AllocError> {
-    put_rule(page, fault)?;
+pub fn explain_name(page: &mut Page, text: &Text<'_>, fault: &NameFault) {
+    put_rule(page, fault);
     match fault.offset {
-        Some(offset) => put_marked(page, text, offset)?,
-        None => page.push_str("help: --node names the node under test, --observe the observer\n")?,
+        Some(offset) => put_marked(page, text, offset),
+        None => page.put("help: --node names the node under test, --observe the observer\n"),
     }
-    put_further(page, text, fault)
+    put_further(page, text, fault);
 }

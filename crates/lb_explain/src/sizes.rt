@@ -2,20 +2,22 @@
 
 use crate::bytes::byte_at;
 use crate::context::context_of;
+use crate::counts::put_past;
 use crate::excerpt::put_excerpt;
 use crate::lexeme::{Lexeme, Sort, token_at};
-use crate::texts::{Text, offset_of, spot};
-use std::alloc::AllocError;
+use crate::page::Page;
+use crate::texts::{offset_of, spot};
+use lb_places::Text;
 
 /// The limits: bytes of a text, bytes of a name, the greatest number, and operators and opening
 /// brackets of a statement.
-const MOST_TEXT: usize = 1_000_000;
+const MOST_TEXT: u64 = 1_000_000;
 
-const MOST_NAME: usize = 64;
+const MOST_NAME: u64 = 64;
 
-const MOST_NUMBER: u32 = 2_147_483_647;
+const MOST_NUMBER: u64 = 2_147_483_647;
 
-const MOST_SIGNS: usize = 500;
+const MOST_SIGNS: u64 = 500;
 
 /// Whether a token is an operator or an opening bracket.
 fn is_counted(text: &[u8], token: &Lexeme) -> bool {
@@ -81,76 +83,55 @@ fn statement_start(text: &[u8], place: usize) -> usize {
     start
 }
 
-/// Puts the length of a text that is too long.
-fn put_long_text(page: &mut String, text: &Text<'_>) -> Result<(), AllocError> {
-    let found = text.bytes.len();
-    write!(
-        page,
-        "the source has {found} bytes; at most {MOST_TEXT} are read\n"
-    )?;
-    page.push_str("help: split the source; a node that is not used can be left out\n")
-}
-
-/// Puts how the least int is written, where a `-` stands right before the number.
-fn put_least(page: &mut String, text: &[u8], at: usize) -> Result<(), AllocError> {
-    if at > 0 && byte_at(text, at.saturating_sub(1)) == b'-' {
-        return page.push_str("help: the least int is written `-2147483647 - 1`\n");
-    }
-    Ok(())
-}
-
 /// Puts how many operators and opening brackets the statement of a place has.
-fn put_signs(page: &mut String, text: &[u8], at: usize) -> Result<(), AllocError> {
-    let found = signs_from(text, statement_start(text, at));
-    write!(
-        page,
-        "this statement has {found} operators and opening brackets; at most {MOST_SIGNS} are read\n"
-    )
+fn put_signs(page: &mut Page, text: &[u8], at: usize) {
+    let found = signs_from(text, statement_start(text, at)) as u64;
+    let signs = " operators and opening brackets";
+    put_past(page, "this statement has ", found, signs, MOST_SIGNS);
 }
 
 /// Puts the limit that is broken at a token.
-fn put_limit(page: &mut String, text: &[u8], token: &Lexeme) -> Result<(), AllocError> {
-    let length = token.end.saturating_sub(token.start);
+fn put_limit(page: &mut Page, text: &[u8], token: &Lexeme) {
+    let length = token.end.saturating_sub(token.start) as u64;
     match token.sort {
         Sort::Name if length > MOST_NAME => {
-            write!(
-                page,
-                "this name has {length} bytes; at most {MOST_NAME} are read\n"
-            )
+            put_past(page, "this name has ", length, " bytes", MOST_NAME);
         }
         Sort::Number => {
-            write!(
-                page,
-                "this number is greater than {MOST_NUMBER}, the greatest int\n"
-            )
+            page.put_number_in(
+                "this number is greater than ",
+                MOST_NUMBER,
+                ", the greatest int\n",
+            );
         }
         _ => put_signs(page, text, token.start),
     }
 }
 
-/// Puts how to mend it.
-fn put_mend(page: &mut String, text: &[u8], token: &Lexeme) -> Result<(), AllocError> {
+/// How to mend it; empty where that is not known. The least int is written in another way: so a `-`
+/// right before a number counts.
+fn mend_of(text: &[u8], token: &Lexeme) -> &'static str {
     match token.sort {
-        Sort::Name => Ok(()),
-        Sort::Number => put_least(page, text, token.start),
-        _ => page.push_str("help: give parts of it to variables of their own\n"),
+        Sort::Name => "",
+        Sort::Number if token.start == 0 => "",
+        Sort::Number if byte_at(text, token.start.saturating_sub(1)) == b'-' => {
+            "help: the least int is written `-2147483647 - 1`\n"
+        }
+        Sort::Number => "",
+        _ => "help: give parts of it to variables of their own\n",
     }
 }
 
 /// Explains E3 at a line and a column.
-pub fn explain_size(
-    page: &mut String,
-    text: &Text<'_>,
-    line: u32,
-    column: u32,
-) -> Result<(), AllocError> {
-    if text.bytes.len() > MOST_TEXT {
-        return put_long_text(page, text);
+pub fn explain_size(page: &mut Page, text: &Text<'_>, line: u32, column: u32) {
+    let length = text.bytes.len() as u64;
+    if length > MOST_TEXT {
+        put_past(page, "the source has ", length, " bytes", MOST_TEXT);
+        page.put("help: split the source; a node that is not used can be left out\n");
+        return;
     }
-    let at = offset_of(text.bytes, line, column);
-    let token = token_at(text.bytes, at);
-    let place = spot(text, token.start, token.end);
-    put_limit(page, text.bytes, &token)?;
-    put_excerpt(page, text, &place)?;
-    put_mend(page, text.bytes, &token)
+    let token = token_at(text.bytes, offset_of(text.bytes, line, column));
+    put_limit(page, text.bytes, &token);
+    put_excerpt(page, text, &spot(text, token.start, token.end));
+    page.put(mend_of(text.bytes, &token));
 }

@@ -2,7 +2,7 @@
 //! before it.
 
 use crate::lexeme::{Lexeme, Sort, token_at};
-use std::alloc::{AllocError, Global};
+use crate::page::Page;
 
 /// A bracket, an `if` or a `then` that is open at a place of an expression.
 #[derive(Clone, Copy, PartialEq, Eq)]
@@ -50,6 +50,8 @@ struct Reading {
     is_right: bool,
     /// Whether the last name is one of the iterators.
     is_iterator: bool,
+    /// Whether memory ran out, so that what is open is not known.
+    is_cut: bool,
 }
 
 impl Reading {
@@ -72,14 +74,13 @@ impl Reading {
     }
 
     /// Opens `open`, by a token of kind `last`.
-    fn put(&mut self, open: Open, last: Last) -> Result<(), AllocError> {
+    fn put(&mut self, open: Open, last: Last) {
         self.last = last;
-        self.opened.push(open)?;
-        Ok(())
+        self.is_cut |= self.opened.push(open).is_err();
     }
 
     /// Opens a parenthesis.
-    fn open_group(&mut self) -> Result<(), AllocError> {
+    fn open_group(&mut self) {
         match self.last {
             Last::Name | Last::Arguments | Last::Counted => self.put(Open::Call, Last::Call),
             _ => self.put(Open::Group, Last::Operator),
@@ -87,7 +88,7 @@ impl Reading {
     }
 
     /// Opens a bracket.
-    fn open_bracket(&mut self) -> Result<(), AllocError> {
+    fn open_bracket(&mut self) {
         match self.last {
             Last::Name | Last::Operand => self.put(Open::Index, Last::Operator),
             _ => self.put(Open::Array, Last::Operator),
@@ -95,23 +96,25 @@ impl Reading {
     }
 
     /// Opens static brackets.
-    fn open_static(&mut self) -> Result<(), AllocError> {
+    fn open_static(&mut self) {
         let last = if self.is_iterator {
             Last::Applied
         } else {
             Last::Operator
         };
-        self.put(Open::Static, last)
+        self.put(Open::Static, last);
     }
 
-    /// Ends the condition at `then`, and the choice at `else`.
-    fn choose(&mut self, next: Option<Open>) -> Result<(), AllocError> {
+    /// Ends the condition or the choice that is open innermost.
+    fn end_innermost(&mut self) {
         let _before = self.opened.pop();
         self.last = Last::Operator;
-        if let Some(open) = next {
-            self.opened.push(open)?;
-        }
-        Ok(())
+    }
+
+    /// Ends the condition at `then`, and begins the choice.
+    fn choose(&mut self) {
+        self.end_innermost();
+        self.put(Open::Choice, Last::Operator);
     }
 
     /// Takes `assert`, or an equals sign: that of the equation, or an operator.
@@ -136,24 +139,23 @@ impl Reading {
     }
 
     /// Takes a bracket or an operator.
-    fn bracket(&mut self, word: &str) -> Result<(), AllocError> {
+    fn bracket(&mut self, word: &str) {
         match word {
-            "(" => self.open_group()?,
-            "[" => self.open_bracket()?,
-            "<<" => self.open_static()?,
+            "(" => self.open_group(),
+            "[" => self.open_bracket(),
+            "<<" => self.open_static(),
             ">>" => self.closed(Last::Arguments),
             ")" | "]" => self.closed(Last::Operand),
             _ => self.operator(),
         }
-        Ok(())
     }
 
     /// Takes a reserved word or a symbol.
-    fn mark(&mut self, word: &str) -> Result<(), AllocError> {
+    fn mark(&mut self, word: &str) {
         match word {
-            "if" => self.put(Open::Condition, Last::Operator)?,
-            "then" => self.choose(Some(Open::Choice))?,
-            "else" => self.choose(None)?,
+            "if" => self.put(Open::Condition, Last::Operator),
+            "then" => self.choose(),
+            "else" => self.end_innermost(),
             "=" | "assert" => self.equal(),
             "true" | "false" => self.last = Last::Operand,
             "when" => self.last = Last::When,
@@ -161,23 +163,21 @@ impl Reading {
             "#" | "nor" => self.last = Last::Counted,
             "not" if self.last == Last::When => {}
             "," | ";" => self.last = Last::Operator,
-            _ => self.bracket(word)?,
+            _ => self.bracket(word),
         }
-        Ok(())
     }
 
     /// Takes a token.
-    fn take(&mut self, text: &[u8], token: &Lexeme) -> Result<(), AllocError> {
+    fn take(&mut self, text: &[u8], token: &Lexeme) {
         let word = token.word(text);
         match token.sort {
-            Sort::Mark => self.mark(word)?,
+            Sort::Mark => self.mark(word),
             Sort::Name => {
                 self.last = Last::Name;
                 self.is_iterator = matches!(word, "map" | "red" | "fill");
             }
             _ => self.last = Last::Operand,
         }
-        Ok(())
     }
 
     /// The tokens that are expected where an operand begins.
@@ -224,18 +224,44 @@ impl Reading {
             _ => "a name",
         }
     }
+
+    /// The tokens that are expected in a statement.
+    fn in_body(&self) -> &'static str {
+        if self.is_right {
+            self.right()
+        } else {
+            self.left()
+        }
+    }
+
+    /// The tokens that are expected in a static expression that ends at a `;`.
+    fn in_value(&self) -> &'static str {
+        match (self.last, self.innermost()) {
+            (Last::Name | Last::Operand, Some(_)) => "`)` or an operator of static expressions",
+            (Last::Name | Last::Operand, None) => "`;` or an operator of static expressions",
+            _ => "a number, a name, `-` or `(`",
+        }
+    }
 }
 
-/// The state behind the tokens from `start` to `place`.
-fn read(
-    alloc: Global,
-    text: &[u8],
-    start: usize,
-    place: usize,
-    is_right: bool,
-) -> Result<Reading, AllocError> {
+/// Reads the tokens from `start` to `place`.
+fn read(text: &[u8], start: usize, place: usize, reading: &mut Reading) {
+    let mut at = start;
+    for _turn in start..place {
+        let token = token_at(text, at);
+        if token.start >= place {
+            return;
+        }
+        reading.take(text, &token);
+        at = token.end;
+    }
+}
+
+/// The state behind the tokens from `start` to `place`, of a statement or, where `is_right` is
+/// true, of a right side. Where memory runs out the page is cut.
+fn reading_of(page: &mut Page, text: &[u8], start: usize, place: usize, is_right: bool) -> Reading {
     let mut reading = Reading {
-        opened: Vec::new(alloc),
+        opened: Vec::new(page.alloc()),
         last: if is_right {
             Last::Operator
         } else {
@@ -243,44 +269,19 @@ fn read(
         },
         is_right,
         is_iterator: false,
+        is_cut: false,
     };
-    let mut at = start;
-    for _turn in start..place {
-        let token = token_at(text, at);
-        if token.start >= place {
-            return Ok(reading);
-        }
-        reading.take(text, &token)?;
-        at = token.end;
-    }
-    Ok(reading)
+    read(text, start, place, &mut reading);
+    page.cut_if(reading.is_cut);
+    reading
 }
 
 /// The tokens that are expected at a place of the statement that begins at `start`.
-pub fn expected_in_body(
-    alloc: Global,
-    text: &[u8],
-    start: usize,
-    place: usize,
-) -> Result<&'static str, AllocError> {
-    let reading = read(alloc, text, start, place, false)?;
-    if reading.is_right {
-        return Ok(reading.right());
-    }
-    Ok(reading.left())
+pub fn expected_in_body(page: &mut Page, text: &[u8], start: usize, place: usize) -> &'static str {
+    reading_of(page, text, start, place, false).in_body()
 }
 
 /// The tokens that are expected at a place of the static expression from `start` to its `;`.
-pub fn expected_in_value(
-    alloc: Global,
-    text: &[u8],
-    start: usize,
-    place: usize,
-) -> Result<&'static str, AllocError> {
-    let reading = read(alloc, text, start, place, true)?;
-    Ok(match (reading.last, reading.innermost()) {
-        (Last::Name | Last::Operand, Some(_)) => "`)` or an operator of static expressions",
-        (Last::Name | Last::Operand, None) => "`;` or an operator of static expressions",
-        _ => "a number, a name, `-` or `(`",
-    })
+pub fn expected_in_value(page: &mut Page, text: &[u8], start: usize, place: usize) -> &'static str {
+    reading_of(page, text, start, place, true).in_value()
 }

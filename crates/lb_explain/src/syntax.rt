@@ -5,26 +5,27 @@ use crate::context::{Context, Section, context_of};
 use crate::excerpt::{put_bytes, put_excerpt, put_place};
 use crate::headings::{InConstant, constant_at, expected_in_heading};
 use crate::lexeme::{Lexeme, Sort, last_before, piece_at, token_at};
+use crate::page::Page;
 use crate::statements::{expected_in_body, expected_in_value};
-use crate::texts::{Stretch, Text, line_at, offset_of, spot};
+use crate::texts::{Stretch, line_at, offset_of, spot};
 use crate::words::{is_same, mend_of_word};
+use lb_places::Text;
 use lb_syntax::is_sign;
-use std::alloc::{AllocError, Global};
 
 /// The most bytes of a token that are shown.
 const SHOWN: usize = 40;
 
 /// The tokens that are expected at a place among constants.
 fn expected_in_constants(
-    alloc: Global,
+    page: &mut Page,
     text: &[u8],
     context: &Context,
     place: usize,
-) -> Result<&'static str, AllocError> {
+) -> &'static str {
     let is_first = token_at(text, context.node).end == context.start;
     match constant_at(text, context.start, place, is_first) {
-        InConstant::Before(expected) => Ok(expected),
-        InConstant::Value(start) => expected_in_value(alloc, text, start, place),
+        InConstant::Before(expected) => expected,
+        InConstant::Value(start) => expected_in_value(page, text, start, place),
     }
 }
 
@@ -36,19 +37,20 @@ fn expected_at_top(last: &Lexeme, text: &[u8]) -> &'static str {
     "`const`, `node`, `function` or the end of the text"
 }
 
-/// The tokens that are expected at a place; empty where they are not known.
+/// The tokens that are expected at a place; empty where they are not known. Where memory runs out
+/// the page is cut.
 fn expected_at(
-    alloc: Global,
+    page: &mut Page,
     text: &[u8],
     context: &Context,
     last: &Lexeme,
     place: usize,
-) -> Result<&'static str, AllocError> {
+) -> &'static str {
     match context.part {
-        Section::Top => Ok(expected_at_top(last, text)),
-        Section::Constants => expected_in_constants(alloc, text, context, place),
-        Section::Heading => Ok(expected_in_heading(text, context.node, place)),
-        Section::Body => expected_in_body(alloc, text, context.start, place),
+        Section::Top => expected_at_top(last, text),
+        Section::Constants => expected_in_constants(page, text, context, place),
+        Section::Heading => expected_in_heading(text, context.node, place),
+        Section::Body => expected_in_body(page, text, context.start, place),
     }
 }
 
@@ -153,62 +155,47 @@ fn mend_of(text: &[u8], last: &Lexeme, found: &Lexeme, expected: &str) -> &'stat
     mend_of_word(last.of(text))
 }
 
-/// Puts the token that was found.
-fn put_found(page: &mut String, text: &[u8], found: &Lexeme) -> Result<(), AllocError> {
+/// Puts the tokens that are expected, and the token that was found.
+fn put_found(page: &mut Page, text: &[u8], expected: &str, found: &Lexeme) {
+    if !expected.is_empty() {
+        page.put_in("expected ", expected, ", ");
+    }
     if found.sort == Sort::End {
-        return page.push_str("found the end of the text\n");
+        return page.put("found the end of the text\n");
     }
     let end = found.end.min(found.start.saturating_add(SHOWN));
-    page.push_str("found `")?;
-    put_bytes(page, part(text, found.start, end))?;
-    page.push_str("`\n")
-}
-
-/// Puts the tokens that are expected.
-fn put_expected(page: &mut String, expected: &str) -> Result<(), AllocError> {
-    if expected.is_empty() {
-        return Ok(());
-    }
-    write!(page, "expected {expected}, ")
+    page.put("found `");
+    put_bytes(page, part(text, found.start, end));
+    page.put("`\n");
 }
 
 /// Puts the line of a place with marks, unless it is empty.
-fn put_line(page: &mut String, text: &Text<'_>, place: &Stretch) -> Result<(), AllocError> {
-    if line_at(text.bytes, place.line_start).is_empty() {
-        return Ok(());
+fn put_line(page: &mut Page, text: &Text<'_>, place: &Stretch) {
+    if !line_at(text.bytes, place.line_start).is_empty() {
+        put_excerpt(page, text, place);
     }
-    put_excerpt(page, text, place)
 }
 
 /// Puts the name of a node, from the end of its `node` or `function` on.
-fn put_node_name(page: &mut String, text: &[u8], from: usize) -> Result<(), AllocError> {
+fn put_node_name(page: &mut Page, text: &[u8], from: usize) {
     let name = token_at(text, from);
     if name.sort == Sort::Name {
-        page.push(' ')?;
-        put_bytes(page, name.of(text))?;
+        page.put(" ");
+        put_bytes(page, name.of(text));
     }
-    page.push_str(", which begins here\n")
+    page.put(", which begins here\n");
 }
 
 /// Puts the start of the node that a place lies in, if it lies in one.
-fn put_open_node(page: &mut String, text: &Text<'_>, context: &Context) -> Result<(), AllocError> {
+fn put_open_node(page: &mut Page, text: &Text<'_>, context: &Context) {
     if context.part != Section::Heading && context.part != Section::Body {
-        return Ok(());
+        return;
     }
     let word = token_at(text.bytes, context.node);
-    let place = spot(text, word.start, word.end);
-    put_place(page, text, &place, "note")?;
-    page.push_str("in ")?;
-    put_bytes(page, word.of(text.bytes))?;
-    put_node_name(page, text.bytes, word.end)
-}
-
-/// Puts how to mend it, if that is known.
-fn put_mend(page: &mut String, mend: &str) -> Result<(), AllocError> {
-    if mend.is_empty() {
-        return Ok(());
-    }
-    write!(page, "help: {mend}\n")
+    put_place(page, text, &spot(text, word.start, word.end), "note");
+    page.put("in ");
+    put_bytes(page, word.of(text.bytes));
+    put_node_name(page, text.bytes, word.end);
 }
 
 /// The token at a place; the end of the text where the place is at the end or the byte there is 0.
@@ -220,23 +207,18 @@ fn found_at(text: &[u8], at: usize) -> Lexeme {
 }
 
 /// Explains E2 at a line and a column.
-pub fn explain_syntax(
-    page: &mut String,
-    alloc: Global,
-    text: &Text<'_>,
-    line: u32,
-    column: u32,
-) -> Result<(), AllocError> {
+pub fn explain_syntax(page: &mut Page, text: &Text<'_>, line: u32, column: u32) {
     let bytes = text.bytes;
     let at = offset_of(bytes, line, column);
     let context = context_of(bytes, at);
     let found = found_at(bytes, at);
     let last = last_before(bytes, window_start(bytes, &context), at);
-    let expected = expected_at(alloc, bytes, &context, &last, at)?;
-    let place = spot(text, found.start, found.end);
-    put_expected(page, expected)?;
-    put_found(page, bytes, &found)?;
-    put_line(page, text, &place)?;
-    put_open_node(page, text, &context)?;
-    put_mend(page, mend_of(bytes, &last, &found, expected))
+    let expected = expected_at(page, bytes, &context, &last, at);
+    put_found(page, bytes, expected, &found);
+    put_line(page, text, &spot(text, found.start, found.end));
+    put_open_node(page, text, &context);
+    let mend = mend_of(bytes, &last, &found, expected);
+    if !mend.is_empty() {
+        page.put_in("help: ", mend, "\n");
+    }
 }

@@ -1,16 +1,7 @@
-//! Texts and places in them.
+//! Places in texts.
 
-use crate::bytes::{byte_at, count, find, part, rest};
-
-/// A text and the name of its file.
-#[derive(Drop)]
-pub struct Text<'a> {
-    /// The path of the file, or `-` for standard input.
-    pub name: &'a str,
-    pub bytes: &'a [u8],
-    /// The number of lines of the file before the text.
-    pub lines_before: u64,
-}
+use crate::bytes::{byte_at, count, find, part};
+use lb_places::Text;
 
 /// A stretch of a line.
 #[derive(Clone, Copy)]
@@ -87,14 +78,4 @@ pub fn line_at(bytes: &[u8], start: usize) -> &[u8] {
         [front @ .., b'\r'] => front,
         _ => line,
     }
-}
-
-/// Whether a text is white space and control bytes from a place on.
-pub fn is_blank_from(bytes: &[u8], from: usize) -> bool {
-    for b in rest(bytes, from) {
-        if *b > b' ' {
-            return false;
-        }
-    }
-    true
 }

@@ -3,10 +3,9 @@
 use crate::cells::{put_cell, stretch_of};
 use crate::characters::{is_printable, put_byte};
 use crate::excerpt::{put_excerpt, put_place};
-use crate::quoted::{cell_at, decoded};
-use crate::records::{CellPlace, Cursor, Goal, find_record, start_of};
-use crate::texts::Text;
-use std::alloc::{AllocError, Global};
+use crate::page::Page;
+use crate::quoted::{CellPlace, cell_at, decoded};
+use lb_places::{Cursor, Goal, Text, find_record};
 
 /// The most bytes of a name.
 const MOST: usize = 64;
@@ -27,30 +26,27 @@ fn first_other(name: &[u8]) -> Option<u8> {
 }
 
 /// Puts a byte that may not stand in a name.
-fn put_other(page: &mut String, b: u8) -> Result<(), AllocError> {
+fn put_other(page: &mut Page, b: u8) {
     if b == b' ' {
-        return page.push_str("has a space");
+        return page.put("has a space");
     }
-    page.push_str(if is_printable(b) { "has a " } else { "has " })?;
-    put_byte(page, b)
+    page.put(if is_printable(b) { "has a " } else { "has " });
+    put_byte(page, b);
 }
 
 /// Puts what is wrong with a name that is not lawful.
-fn put_rule(page: &mut String, name: &[u8]) -> Result<(), AllocError> {
+fn put_rule(page: &mut Page, name: &[u8]) {
     if name.is_empty() {
-        return page.push_str("the trace name is empty\n");
+        return page.put("the trace name is empty\n");
     }
-    page.push_str("the trace name ")?;
-    put_cell(page, name)?;
-    page.push(' ')?;
-    if let Some(b) = first_other(name) {
-        put_other(page, b)?;
-        page.push('\n')?;
-    } else {
-        let length = name.len();
-        write!(page, "has {length} bytes\n")?;
+    page.put("the trace name ");
+    put_cell(page, name);
+    page.put(" ");
+    match first_other(name) {
+        Some(b) => put_other(page, b),
+        None => page.put_number_in("has ", name.len() as u64, " bytes"),
     }
-    Ok(())
+    page.put("\n");
 }
 
 /// Whether a name is lawful.
@@ -58,68 +54,55 @@ fn keeps_rule(name: &[u8]) -> bool {
     !name.is_empty() && name.len() <= MOST && first_other(name).is_none()
 }
 
-/// Explains a name that is not lawful.
-fn explain_rule(
-    page: &mut String,
-    text: &Text<'_>,
-    record: &Cursor,
-    cell: &CellPlace,
-    name: &[u8],
-) -> Result<(), AllocError> {
+/// Puts the place of the name of a record, what is wrong with it, and its line.
+fn explain_rule(page: &mut Page, text: &Text<'_>, record: &Cursor, cell: &CellPlace, name: &[u8]) {
     let place = stretch_of(text, record, cell.start, cell.end);
-    put_place(page, text, &place, "error")?;
-    put_rule(page, name)?;
-    put_excerpt(page, text, &place)?;
-    page.push_str("help: a name has 1 to 64 letters, digits, `_`, `-`, `.` and `/`\n")?;
-    let number = record.records;
-    write!(page, "in record {number}\n")
+    put_place(page, text, &place, "error");
+    put_rule(page, name);
+    put_excerpt(page, text, &place);
+    page.put("help: a name has 1 to 64 letters, digits, `_`, `-`, `.` and `/`\n");
+    page.put_number_in("in record ", record.records, "\n");
 }
 
 /// Explains a name that comes back, where it stood before.
 fn explain_return(
-    page: &mut String,
+    page: &mut Page,
     text: &Text<'_>,
     record: &Cursor,
     cell: &CellPlace,
     name: &[u8],
-) -> Result<(), AllocError> {
-    let bytes = text.bytes;
-    let Some(first) = find_record(bytes, &start_of(bytes), &Goal::Name(name)) else {
-        return Ok(());
+) {
+    let Some(first) = find_record(text.bytes, &Goal::Name(name)) else {
+        return;
     };
     if first.records >= record.records {
-        return Ok(());
+        return;
     }
     let place = stretch_of(text, record, cell.start, cell.end);
-    put_place(page, text, &place, "error")?;
-    page.push_str("trace ")?;
-    put_cell(page, name)?;
-    page.push_str(" comes back after a record of another trace\n")?;
-    put_excerpt(page, text, &place)?;
+    put_place(page, text, &place, "error");
+    page.put("trace ");
+    put_cell(page, name);
+    page.put(" comes back after a record of another trace\n");
+    put_excerpt(page, text, &place);
     let before = stretch_of(text, &first, first.at, first.at);
-    put_place(page, text, &before, "note")?;
-    page.push_str("it began here; the records of a trace stand together\n")?;
-    let number = record.records;
-    write!(page, "in record {number}\n")
+    put_place(page, text, &before, "note");
+    page.put("it began here; the records of a trace stand together\n");
+    page.put_number_in("in record ", record.records, "\n");
 }
 
 /// Explains E17 for the record with a number.
-pub fn explain_trace_name(
-    page: &mut String,
-    alloc: Global,
-    text: &Text<'_>,
-    number: u64,
-) -> Result<(), AllocError> {
+pub fn explain_trace_name(page: &mut Page, text: &Text<'_>, number: u64) {
     let bytes = text.bytes;
-    let Some(record) = find_record(bytes, &start_of(bytes), &Goal::Number(number)) else {
-        return Ok(());
+    let Some(record) = find_record(bytes, &Goal::Number(number)) else {
+        return;
     };
     let Some(cell) = cell_at(bytes, record.at, 0) else {
-        return Ok(());
+        return;
     };
-    let name = decoded(alloc, cell.raw(bytes))?;
+    let name = decoded(page, cell.raw(bytes));
     if keeps_rule(name.as_slice()) {
-        return explain_return(page, text, &record, &cell, name.as_slice());
+        explain_return(page, text, &record, &cell, name.as_slice());
+    } else {
+        explain_rule(page, text, &record, &cell, name.as_slice());
     }
-    explain_rule(page, text, &record, &cell, name.as_slice())
 }

@@ -4,31 +4,38 @@ use crate::counts::put_count;
 use crate::excerpt::put_bytes;
 use crate::lexeme::{Sort, last_before, token_at};
 use crate::marking::{put_marked, token_of, word_of};
+use crate::page::Page;
 use crate::paths::put_path;
-use crate::texts::Text;
 use lb_check::{SourceType, TypeFault, TypeRule};
-use std::alloc::AllocError;
+use lb_places::Text;
+
+/// Puts a type between two texts.
+fn put_type_in(page: &mut Page, front: &str, shown: &SourceType, end: &str) {
+    page.put(front);
+    write!(page, "{shown}");
+    page.put(end);
+}
 
 /// Puts the types that were found, as `this is int` or `this has 2 results`.
-fn put_found(page: &mut String, found: &[SourceType]) -> Result<(), AllocError> {
+fn put_found(page: &mut Page, found: &[SourceType]) {
     match found {
-        [] => page.push_str("this has no type"),
-        [one] => write!(page, "this is {one}"),
+        [] => page.put("this has no type\n"),
+        [one] => put_type_in(page, "this is ", one, "\n"),
         several => {
-            page.push_str("this has ")?;
-            put_count(page, several.len(), "result")
+            page.put("this has ");
+            put_count(page, several.len(), "result");
+            page.put("\n");
         }
     }
 }
 
 /// Puts the type that is wanted and the type that was found.
-fn put_types(page: &mut String, fault: &TypeFault) -> Result<(), AllocError> {
+fn put_types(page: &mut Page, fault: &TypeFault) {
     match &fault.wanted {
-        Some(wanted) => write!(page, "{wanted} is wanted, ")?,
-        None => page.push_str("another type is wanted, ")?,
+        Some(wanted) => put_type_in(page, "", wanted, " is wanted, "),
+        None => page.put("another type is wanted, "),
     }
-    put_found(page, fault.found.as_slice())?;
-    page.push('\n')
+    put_found(page, fault.found.as_slice());
 }
 
 /// The types that an operator wants, in words, where it wants one of several.
@@ -41,150 +48,139 @@ fn wanted_by(sign: &[u8]) -> &'static str {
 }
 
 /// Puts what an operator wants, and what its operand is.
-fn put_operand(page: &mut String, text: &Text<'_>, fault: &TypeFault) -> Result<(), AllocError> {
+fn put_operand(page: &mut Page, text: &Text<'_>, fault: &TypeFault) {
     let Some(offset) = fault.sign_offset else {
         return put_types(page, fault);
     };
     let sign = word_of(text, offset);
-    page.push('`')?;
-    put_bytes(page, sign)?;
+    page.put("`");
+    put_bytes(page, sign);
     match &fault.wanted {
-        Some(wanted) => write!(page, "` wants {wanted}, ")?,
-        None => {
-            let wanted = wanted_by(sign);
-            write!(page, "` wants {wanted}, ")?;
-        }
+        Some(wanted) => put_type_in(page, "` wants ", wanted, ", "),
+        None => page.put_in("` wants ", wanted_by(sign), ", "),
     }
-    put_found(page, fault.found.as_slice())?;
-    page.push('\n')
+    put_found(page, fault.found.as_slice());
 }
 
 /// Puts how a left variable and the right side differ.
-fn put_left(page: &mut String, fault: &TypeFault) -> Result<(), AllocError> {
+fn put_left(page: &mut Page, fault: &TypeFault) {
     match &fault.wanted {
-        Some(wanted) => write!(page, "this is {wanted}, and the right side ")?,
-        None => page.push_str("this is of another type, and the right side ")?,
+        Some(wanted) => put_type_in(page, "this is ", wanted, ", and the right side "),
+        None => page.put("this is of another type, and the right side "),
     }
     match fault.found.as_slice() {
-        [one] => write!(page, "is {one}\n"),
-        _ => page.push_str("is not\n"),
+        [one] => put_type_in(page, "is ", one, "\n"),
+        _ => page.put("is not\n"),
     }
 }
 
 /// Puts how many arguments there are, and how many are wanted.
-fn put_arguments(page: &mut String, found: usize, wanted: usize) -> Result<(), AllocError> {
-    put_count(page, found, "argument")?;
-    page.push_str(if found == 1 {
+fn put_arguments(page: &mut Page, found: usize, wanted: usize) {
+    put_count(page, found, "argument");
+    page.put(if found == 1 {
         " is given, "
     } else {
         " are given, "
-    })?;
-    write!(
-        page,
-        "{wanted} {}\n",
-        if wanted == 1 {
-            "is wanted"
-        } else {
-            "are wanted"
-        }
-    )
+    });
+    let end = if wanted == 1 {
+        " is wanted\n"
+    } else {
+        " are wanted\n"
+    };
+    page.put_number_in("", wanted as u64, end);
 }
 
 /// Puts how many variables stand on the left, and how many results on the right.
-fn put_results(page: &mut String, found: usize, wanted: usize) -> Result<(), AllocError> {
-    put_count(page, found, "variable")?;
-    page.push_str(" on the left, ")?;
-    put_count(page, wanted, "result")?;
-    page.push_str(" on the right\n")
+fn put_results(page: &mut Page, found: usize, wanted: usize) {
+    put_count(page, found, "variable");
+    page.put(" on the left, ");
+    put_count(page, wanted, "result");
+    page.put(" on the right\n");
 }
 
 /// Puts the rule that is broken.
-fn put_rule(page: &mut String, text: &Text<'_>, fault: &TypeFault) -> Result<(), AllocError> {
+fn put_rule(page: &mut Page, text: &Text<'_>, fault: &TypeFault) {
     match fault.rule {
-        TypeRule::Number => page.push_str("this value is out of the range of int\n"),
         TypeRule::Operand(_) => put_operand(page, text, fault),
         TypeRule::Argument(place) => {
-            write!(page, "argument {place}: ")?;
-            put_types(page, fault)
+            page.put_number_in("argument ", place as u64, ": ");
+            put_types(page, fault);
         }
         TypeRule::ArgumentCount { found, wanted } => put_arguments(page, found, wanted),
         TypeRule::Left(_) => put_left(page, fault),
         TypeRule::LeftCount { found, wanted } => put_results(page, found, wanted),
         TypeRule::Index => put_array(page, fault),
-        _ => put_further_rule(page, fault),
+        rule => put_further_rule(page, rule, fault.found.as_slice()),
     }
 }
 
 /// Puts that an index or the ends of a slice are outside of an array.
-fn put_array(page: &mut String, fault: &TypeFault) -> Result<(), AllocError> {
-    page.push_str("the index is outside of the array")?;
-    if let [array] = fault.found.as_slice() {
-        write!(page, ", which is {array}")?;
+fn put_array(page: &mut Page, fault: &TypeFault) {
+    page.put("the index is outside of the array");
+    match fault.found.as_slice() {
+        [array] => put_type_in(page, ", which is ", array, "\n"),
+        _ => page.put("\n"),
     }
-    page.push('\n')
 }
 
-/// Puts the rule that is broken, for the rules of calls, arrays, assertions and clocks.
-fn put_further_rule(page: &mut String, fault: &TypeFault) -> Result<(), AllocError> {
-    match fault.rule {
-        TypeRule::ResultCount => page.push_str("one result is wanted, ")?,
-        TypeRule::IteratedNode => return page.push_str("this node does not fit its iterator\n"),
-        TypeRule::Length => {
-            return page.push_str("this array would have no element, or more than 4096\n");
-        }
-        TypeRule::Assertion => page.push_str("an assertion is bool, ")?,
-        TypeRule::ClockVariable => page.push_str("the variable of a clock is bool, ")?,
-        _ => {}
+/// Puts the rule that is broken, for the rules of numbers, calls, arrays, assertions and clocks.
+fn put_further_rule(page: &mut Page, rule: TypeRule, found: &[SourceType]) {
+    page.put(match rule {
+        TypeRule::Number => "this value is out of the range of int\n",
+        TypeRule::IteratedNode => "this node does not fit its iterator\n",
+        TypeRule::Length => "this array would have no element, or more than 4096\n",
+        TypeRule::ResultCount => "one result is wanted, ",
+        TypeRule::Assertion => "an assertion is bool, ",
+        TypeRule::ClockVariable => "the variable of a clock is bool, ",
+        _ => "",
+    });
+    let is_told = matches!(
+        rule,
+        TypeRule::Number | TypeRule::IteratedNode | TypeRule::Length
+    );
+    if !is_told {
+        put_found(page, found);
     }
-    put_found(page, fault.found.as_slice())?;
-    page.push('\n')
 }
 
 /// Puts how a comparison after `not` was read.
-fn put_reading(page: &mut String, text: &Text<'_>, fault: &TypeFault) -> Result<(), AllocError> {
+fn put_reading(page: &mut Page, text: &Text<'_>, fault: &TypeFault) {
     const COMPARISONS: [&[u8]; 6] = [b"=", b"<>", b"<", b"<=", b">", b">="];
     let bytes = text.bytes;
     let operand = token_of(text, fault.offset);
     let before = last_before(bytes, fault.part_offset as usize, operand.start);
     let after = token_at(bytes, operand.end);
     let is_single = operand.sort == Sort::Name || operand.sort == Sort::Number;
-    if !is_single || !before.is(bytes, b"not".as_slice()) || !after.is_among(bytes, &COMPARISONS) {
-        return Ok(());
+    if is_single && before.is(bytes, b"not".as_slice()) && after.is_among(bytes, &COMPARISONS) {
+        page.put("help: this is read as `(not ");
+        put_bytes(page, operand.of(bytes));
+        page.put(") ");
+        put_bytes(page, after.of(bytes));
+        page.put(" ..`; write parentheses round the comparison\n");
     }
-    page.push_str("help: this is read as `(not ")?;
-    put_bytes(page, operand.of(bytes))?;
-    page.push_str(") ")?;
-    put_bytes(page, after.of(bytes))?;
-    page.push_str(" ..`; write parentheses round the comparison\n")
 }
 
-/// Puts what an iterator wants of its node.
-fn put_iterator(page: &mut String, iterator: &[u8]) -> Result<(), AllocError> {
+/// What an iterator wants of its node; empty for other words.
+fn iterator_mend(iterator: &[u8]) -> &'static str {
     match iterator {
-        b"red" => page.push_str("help: `red` wants one output, of the type of the first input\n"),
-        b"fill" => page.push_str(
-            "help: `fill` wants one input, an output of its type, and further outputs\n",
-        ),
-        _ => Ok(()),
+        b"red" => "help: `red` wants one output, of the type of the first input\n",
+        b"fill" => "help: `fill` wants one input, an output of its type, and further outputs\n",
+        _ => "",
     }
 }
 
 /// Puts how to mend it, for common mistakes.
-fn put_mend(page: &mut String, text: &Text<'_>, fault: &TypeFault) -> Result<(), AllocError> {
+fn put_mend(page: &mut Page, text: &Text<'_>, fault: &TypeFault) {
     match fault.rule {
-        TypeRule::IteratedNode => put_iterator(page, word_of(text, fault.offset)),
+        TypeRule::IteratedNode => page.put(iterator_mend(word_of(text, fault.offset))),
         _ => put_reading(page, text, fault),
     }
 }
 
 /// Explains E9.
-pub fn explain_type(
-    page: &mut String,
-    text: &Text<'_>,
-    fault: &TypeFault,
-) -> Result<(), AllocError> {
-    put_rule(page, text, fault)?;
-    put_marked(page, text, fault.offset)?;
-    put_mend(page, text, fault)?;
-    put_path(page, text, &fault.path)
+pub fn explain_type(page: &mut Page, text: &Text<'_>, fault: &TypeFault) {
+    put_rule(page, text, fault);
+    put_marked(page, text, fault.offset);
+    put_mend(page, text, fault);
+    put_path(page, text, &fault.path);
 }

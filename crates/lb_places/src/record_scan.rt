@@ -3,11 +3,10 @@
 //! A record begins at each byte that ends no line and follows one that does.
 
 ghost use Rattle.std.specs.Prelude.{◌<◌, IfOk, IfSome, length};
-ghost use Rattle.lb_explain.specs.Found.{IsNumbered};
+ghost use Rattle.lb_places.specs.Found.{IsNumbered};
 
 use crate::blocks::{BLOCK, places_of};
-use crate::bytes::rest;
-use crate::quoted::{ends_line, first_cell_is};
+use crate::first_cells::{ends_line, first_cell_is};
 use crate::records::{Cursor, Goal, is_goal};
 
 /// A text has a quote, so a line may be less than a record.
@@ -124,7 +123,7 @@ pub fn next_plain(text: &[u8], from: &Cursor, goal: &Goal<'_>) -> Result<Option<
 {
     let mut cursor = *from;
     let mut carry: u64 = 1;
-    let mut left = rest(text, from.at);
+    let mut left = &text[from.at.min(text.len())..];
     for _turn in 0..left.len() {
         if left.len() < BLOCK {
             break;

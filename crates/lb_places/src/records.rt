@@ -3,11 +3,11 @@
 //! The rules are those of the reader: an empty line is no record, and a cell that begins with `"`
 //! goes on to the closing one. A text without quotes is searched 32 bytes at a time.
 
-ghost use Rattle.std.specs.Prelude.{IsTrue, IfSome};
-ghost use Rattle.lb_explain.specs.Found.{IsNumbered};
+ghost use Rattle.std.specs.Prelude.{◌≡◌, IsTrue, IfSome};
+ghost use Rattle.lb_places.specs.Found.{IsNumbered};
 
-use crate::bytes::part;
-use crate::quoted::{first_cell_is, next_quoted};
+use crate::first_cells::first_cell_is;
+use crate::quoted_scan::next_quoted;
 use crate::record_scan::next_plain;
 
 /// A place between records of a text, with the numbers of records and of lines before it.
@@ -42,19 +42,14 @@ pub fn is_goal(goal: &Goal<'_>, text: &[u8], number: u64, start: usize) -> bool
     }
 }
 
-/// The place at which records begin: behind the byte order mark, if there is one.
-fn first_byte(text: &[u8]) -> usize {
-    if part(text, 0, 3) == b"\xEF\xBB\xBF".as_slice() {
-        3
-    } else {
-        0
-    }
-}
-
-/// The cursor before the first record.
-pub fn start_of(text: &[u8]) -> Cursor {
+/// The cursor before the first record: behind the byte order mark, if there is one.
+fn start_of(text: &[u8]) -> Cursor {
+    let at = match text {
+        [0xEF, 0xBB, 0xBF, ..] => 3,
+        _ => 0,
+    };
     Cursor {
-        at: first_byte(text),
+        at,
         records: 0,
         lines: 0,
         has_quote: false,
@@ -62,7 +57,7 @@ pub fn start_of(text: &[u8]) -> Cursor {
 }
 
 /// The record that `goal` looks for, from a place on: the cursor stands where the record begins.
-pub fn find_record(text: &[u8], from: &Cursor, goal: &Goal<'_>) -> Option<Cursor>
+fn find_from(text: &[u8], from: &Cursor, goal: &Goal<'_>) -> Option<Cursor>
     ensures { IfSome result (λ found. IsNumbered goal.now found.records) }
 {
     match next_plain(text, from, goal) {
@@ -72,23 +67,19 @@ pub fn find_record(text: &[u8], from: &Cursor, goal: &Goal<'_>) -> Option<Cursor
     }
 }
 
+/// The record of a text that `goal` looks for: the cursor stands where the record begins.
+pub fn find_record(text: &[u8], goal: &Goal<'_>) -> Option<Cursor>
+    ensures { IfSome result (λ found. IsNumbered goal.now found.records) }
+{
+    find_from(text, &start_of(text), goal)
+}
+
 /// The header, and the record with a number, where the text has both.
-pub fn header_and_record(text: &[u8], number: u64) -> Option<(Cursor, Cursor)> {
-    let header = find_record(text, &start_of(text), &Goal::Number(0))?;
-    let record = find_record(text, &header, &Goal::Number(number))?;
+pub fn header_and_record(text: &[u8], number: u64) -> Option<(Cursor, Cursor)>
+    ensures header { IfSome result (λ found. found.0.records ≡ 0) }
+    ensures record { IfSome result (λ found. found.1.records ≡ number) }
+{
+    let header = find_record(text, &Goal::Number(0))?;
+    let record = find_from(text, &header, &Goal::Number(number))?;
     Some((header, record))
-}
-
-/// A cell of a record, as it stands in the text.
-#[derive(Clone, Copy)]
-pub struct CellPlace {
-    pub start: usize,
-    pub end: usize,
-}
-
-impl CellPlace {
-    /// Its bytes, with quotes if it has them.
-    pub fn raw<'t>(&self, text: &'t [u8]) -> &'t [u8] {
-        part(text, self.start, self.end)
-    }
 }

@@ -1,7 +1,7 @@
 //! The place with which an explanation begins, as `pump.lus:14:13: error: `.
 
 ghost use Rattle.std.specs.Prelude.{◌≡◌, ◌<◌, length, IfOk, IfSome};
-ghost use Rattle.lb_explain.specs.FirstPlaces as spec;
+ghost use Rattle.lb_places.specs.FirstPlaces as spec;
 
 use crate::texts::Text;
 use itoa::Buffer;

@@ -1,0 +1,3 @@
+pub mod CellStates
+pub mod FirstPlaces
+pub mod Found
