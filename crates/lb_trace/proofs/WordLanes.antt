@@ -18,7 +18,7 @@ use Rattle.std.proofs.lemmas.Simd.{get_or_narrower, get_or_wider, length-sel_l, 
 use Rattle.std.proofs.lemmas.Simd.{map-map, tops_compared, zip2_splat, zip2_splat_left}
 use Rattle.std.specs.List.{list_any}
 use lib.Bits.{and_mask, bit_and}
-use lib.Lanes.{Each1, digits_l, number_l, sel_l, top, zip2}
+use lib.Lanes.{Each1, digits_l, number_l, pick_l, sel_l, top, zip2}
 
 -- ## The lanes of other widths
 
@@ -43,47 +43,124 @@ wide-lane p q n xs j square small long below =
     get_or_wider p 2 q n xs j square small below
     ∙ two-from p xs (2 * j) (omega (arith, below, long))
 
-module _ (f g : ℕ → ℕ → ℕ) where
-  -- two operations on all lanes, each with one value, are two operations on each lane
-  pub lane-twice : (xs : List ℕ) (n a b j : ℕ) → length xs ≡ n → j < n
-      → get_or (zip2 f (zip2 g xs (replicate n a)) (replicate n b)) j 0 ≡ f (g (get_or xs j 0) a) b
-  lane-twice xs n a b j long below =
-      let one : List ℕ = map (λ x. g x a) xs in
-      let inner : zip2 g xs (replicate n a) ≡ one = zip2_splat g xs n a long in
-      let size : length one ≡ n = length-map xs (λ x. g x a) ∙ long in
-      ap (λ l. get_or (zip2 f l (replicate n b)) j 0) inner
-      ∙ ap (λ l. get_or l j 0) (zip2_splat f one n b size)
-      ∙ get_or-map (λ x. f x b) one j 0 0 (omega (arith, below, size))
-      ∙ ap (λ x. f x b) (get_or-map (λ x. g x a) xs j 0 0 (omega (arith, below, long)))
-
 -- ## Pairs
 
-pair-of : (a b : ℕ) → a < 10 → b < 10 → (a + 256 * b) * 2561 % 65536 / 256 ≡ a * 10 + b
+pair-of : (a b : ℕ) → a < 10 → b < 10
+    → (a + 256 * b) * 2561 % 65536 / 256 ^ 1 % 256 ≡ a * 10 + b
 pair-of a b la lb = omega arith
 
 below-from : (m : ℕ) (xs : List ℕ) → All (λ x. x < m) xs → (p : ℕ) → m ≤ p → Each1 (λ x. x < p) xs
 below-from m xs all p le =
     Each1-from_get_or (λ x. x < p) xs 0 (λ i l. omega (arith, all i 0 l, le))
 
+-- every second number from `a` on
+abbrev pub seconds : ℕ → ℕ → List ℕ
+seconds a zero = []
+seconds a (suc n) = a ∷ seconds (a + 2) n
+
+second-at : (a n j : ℕ) → j < n → get_or (seconds a n) j 0 ≡ a + 2 * j
+second-at a zero j below = absurd (omega (arith, below))
+second-at a (suc n) zero below = omega arith
+second-at a (suc n) (suc j) below = second-at (a + 2) n j (omega (arith, below)) ∙ omega arith
+
+seconds-long : (a n : ℕ) → length (seconds a n) ≡ n
+seconds-long a zero = refl
+seconds-long a (suc n) = ap suc (seconds-long (a + 2) n)
+
+-- the products of two digits each with 2561
+abbrev pub pair_products : List ℕ → List ℕ
+pair_products digits =
+    zip2 (λ a b. a * b % 65536) (digits_l 65536 16 (number_l 256 digits)) (replicate 16 2561)
+
 -- the vector of pairs that the code computes of all digits
 abbrev pub pair_lanes : List ℕ → List ℕ
 pair_lanes digits =
-    zip2 (λ a b. a / 2 ^ b) (zip2 (λ a b. a * b % 65536)
-    (digits_l 65536 16 (number_l 256 digits)) (replicate 16 2561)) (replicate 16 8)
+    pick_l 0 (digits_l 256 32 (number_l 65536 (pair_products digits))) (seconds 1 16)
+
+products-below : (xs : List ℕ) → Each1 (λ x. x < 65536) (map (λ x. x * 2561 % 65536) xs)
+products-below [] = tt
+products-below (x ∷ xs) = (omega arith, products-below xs)
 
 pub pairs-lane : (digits : List ℕ) (j : ℕ) → length digits ≡ 32 → All (λ d. d < 10) digits → j < 16
     → get_or (pair_lanes digits) j 0
     ≡ get_or digits (2 * j) 0 * 10 + get_or digits (2 * j + 1) 0
 pairs-lane digits j long small below =
     let lanes : List ℕ = digits_l 65536 16 (number_l 256 digits) in
-    lane-twice (λ a b. a / 2 ^ b) (λ a b. a * b % 65536) lanes 16 2561 8 j refl below
-    ∙ ap (λ x. x * 2561 % 65536 / 256)
-    (wide-lane 256 65536 16 digits j refl (below-from 10 digits small 256 (omega arith)) long below)
+    let products : List ℕ = map (λ x. x * 2561 % 65536) lanes in
+    let bytes : List ℕ = digits_l 256 32 (number_l 65536 products) in
+    let place : get_or (seconds 1 16) j 0 ≡ 2 * j + 1 =
+    omega (arith, second-at 1 16 j below) in
+    let same : pair_products digits ≡ products =
+    zip2_splat (λ a b. a * b % 65536) lanes 16 2561 refl in
+    ap (λ l. get_or (pick_l 0 (digits_l 256 32 (number_l 65536 l)) (seconds 1 16)) j 0) same
+    ∙ get_or-map (λ k. get_or bytes k 0) (seconds 1 16) j 0 0
+    (omega (arith, below, seconds-long 1 16))
+    ∙ ap (λ k. get_or bytes k 0) place
+    ∙ get_or_narrower 65536 2 256 32 products j 1 refl (products-below lanes) (omega arith)
+    (omega (arith, below))
+    ∙ ap (λ x. x / 256 ^ 1 % 256) (get_or-map (λ x. x * 2561 % 65536) lanes j 0 0 below
+    ∙ ap (λ x. x * 2561 % 65536)
+    (wide-lane 256 65536 16 digits j refl (below-from 10 digits small 256 (omega arith)) long below))
     ∙ pair-of (get_or digits (2 * j) 0) (get_or digits (2 * j + 1) 0)
     (small (2 * j) 0 (omega (arith, below, long)))
     (small (2 * j + 1) 0 (omega (arith, below, long)))
 
+-- ## Joined halves
+
+-- lanes below `q` whose lower half, by `mask`, is multiplied and added to the higher one
+abbrev pub halves_joined : ℕ → ℕ → ℕ → ℕ → ℕ → ℕ
+halves_joined q mask factor shift x = (bit_and x mask * factor % q + x / 2 ^ shift) % q
+
+abbrev pub joined_lanes : ℕ → ℕ → ℕ → ℕ → ℕ → List ℕ → List ℕ
+joined_lanes q n mask factor shift lanes =
+    zip2 (λ a b. (a + b) % q)
+    (zip2 (λ a b. a * b % q) (zip2 bit_and lanes (replicate n mask)) (replicate n factor))
+    (zip2 (λ a b. a / 2 ^ b) lanes (replicate n shift))
+
+joined-lane : (q n mask factor shift : ℕ) (lanes : List ℕ) (j : ℕ) → length lanes ≡ n → j < n
+    → get_or (joined_lanes q n mask factor shift lanes) j 0
+    ≡ halves_joined q mask factor shift (get_or lanes j 0)
+joined-lane q n mask factor shift lanes j long below =
+    let masked : List ℕ = map (λ x. bit_and x mask) lanes in
+    let low : List ℕ = map (λ x. x * factor % q) masked in
+    let high : List ℕ = map (λ x. x / 2 ^ shift) lanes in
+    let size : length masked ≡ n = length-map lanes (λ x. bit_and x mask) ∙ long in
+    let less : j < length low = omega (arith, below, size, length-map masked (λ x. x * factor % q)) in
+    let wide : j < length high = omega (arith, below, long, length-map lanes (λ x. x / 2 ^ shift)) in
+    ap₂ (λ xs ys. get_or (zip2 (λ a b. (a + b) % q) xs ys) j 0)
+    (ap (λ l. zip2 (λ a b. a * b % q) l (replicate n factor)) (zip2_splat bit_and lanes n mask long)
+    ∙ zip2_splat (λ a b. a * b % q) masked n factor size)
+    (zip2_splat (λ a b. a / 2 ^ b) lanes n shift long)
+    ∙ get_or-zip2 (λ a b. (a + b) % q) low high j 0 0 0 less wide
+    ∙ ap₂ (λ a b. (a + b) % q)
+    (get_or-map (λ x. x * factor % q) masked j 0 0 (omega (arith, below, size))
+    ∙ ap (λ x. x * factor % q) (get_or-map (λ x. bit_and x mask) lanes j 0 0 (omega (arith, below, long))))
+    (get_or-map (λ x. x / 2 ^ shift) lanes j 0 0 (omega (arith, below, long)))
+
 -- ## Fours
+
+four-of : (a b : ℕ) → a < 100 → b < 100
+    → halves_joined 65536 255 100 8 (a + 256 * b) ≡ a * 100 + b
+four-of a b la lb =
+    let low : bit_and (a + 256 * b) 255 ≡ (a + 256 * b) % 256 = and_mask (a + 256 * b) 8 in
+    ap (λ m. (m * 100 % 65536 + (a + 256 * b) / 256) % 65536) low ∙ omega arith
+
+-- the vector of fours that the code computes of all pairs
+abbrev pub four_lanes : List ℕ → List ℕ
+four_lanes pairs = joined_lanes 65536 8 255 100 8 (digits_l 65536 8 (number_l 256 pairs))
+
+pub fours-lane : (pairs : List ℕ) (j : ℕ) → length pairs ≡ 16 → All (λ p. p < 100) pairs → j < 8
+    → get_or (four_lanes pairs) j 0
+    ≡ get_or pairs (2 * j) 0 * 100 + get_or pairs (2 * j + 1) 0
+fours-lane pairs j long small below =
+    joined-lane 65536 8 255 100 8 (digits_l 65536 8 (number_l 256 pairs)) j refl below
+    ∙ ap (halves_joined 65536 255 100 8)
+    (wide-lane 256 65536 8 pairs j refl (below-from 100 pairs small 256 (omega arith)) long below)
+    ∙ four-of (get_or pairs (2 * j) 0) (get_or pairs (2 * j + 1) 0)
+    (small (2 * j) 0 (omega (arith, below, long)))
+    (small (2 * j + 1) 0 (omega (arith, below, long)))
+
+-- ## Eights
 
 -- a number below `256 ^ n` is made of its `n` digits of base 256
 number-again : (n x : ℕ) → x < 256 ^ n → number_l 256 (digits_l 256 n x) ≡ x
@@ -117,75 +194,28 @@ wide-by_bytes p q n m xs j square size small long below =
     ap (λ x. get_or (digits_l q n x) j 0) (number-again m (number_l p xs) within)
     ∙ wide-lane p q n xs j square small long below
 
-four-of : (a b : ℕ) → a < 100 → b < 100
-    → (a + 65536 * b) * 6553601 % 4294967296 / 65536 ≡ a * 100 + b
-four-of a b la lb = omega arith
-
--- the vector of fours that the code computes of all pairs
-abbrev pub four_lanes : List ℕ → List ℕ
-four_lanes pairs =
-    zip2 (λ a b. a / 2 ^ b) (zip2 (λ a b. a * b % 4294967296)
-    (digits_l 4294967296 8 (number_l 256 (digits_l 256 32 (number_l 65536 pairs))))
-    (replicate 8 6553601)) (replicate 8 16)
-
-pub fours-lane : (pairs : List ℕ) (j : ℕ) → length pairs ≡ 16 → All (λ p. p < 100) pairs → j < 8
-    → get_or (four_lanes pairs) j 0
-    ≡ get_or pairs (2 * j) 0 * 100 + get_or pairs (2 * j + 1) 0
-fours-lane pairs j long small below =
-    let lanes : List ℕ =
-    digits_l 4294967296 8 (number_l 256 (digits_l 256 32 (number_l 65536 pairs))) in
-    lane-twice (λ a b. a / 2 ^ b) (λ a b. a * b % 4294967296) lanes 8 6553601 16 j refl below
-    ∙ ap (λ x. x * 6553601 % 4294967296 / 65536)
-    (wide-by_bytes 65536 4294967296 8 32 pairs j refl refl
-    (below-from 100 pairs small 65536 (omega arith)) long below)
-    ∙ four-of (get_or pairs (2 * j) 0) (get_or pairs (2 * j + 1) 0)
-    (small (2 * j) 0 (omega (arith, below, long)))
-    (small (2 * j + 1) 0 (omega (arith, below, long)))
-
--- ## Eights
-
-abbrev halves_joined : ℕ → ℕ
-halves_joined x =
-    (bit_and x 4294967295 * 10000 % 18446744073709551616 + x / 4294967296) % 18446744073709551616
-
 eight-from : (a b : ℕ) → a < 10000 → b < 10000
-    → halves_joined (a + 4294967296 * b) ≡ a * 10000 + b
+    → halves_joined 4294967296 65535 10000 16 (a + 65536 * b) ≡ a * 10000 + b
 eight-from a b la lb =
-    let low : bit_and (a + 4294967296 * b) 4294967295 ≡ (a + 4294967296 * b) % 4294967296 =
-    and_mask (a + 4294967296 * b) 32 in
-    ap (λ m. (m * 10000 % 18446744073709551616 + (a + 4294967296 * b) / 4294967296)
-    % 18446744073709551616) low
-    ∙ omega arith
+    let low : bit_and (a + 65536 * b) 65535 ≡ (a + 65536 * b) % 65536 =
+    and_mask (a + 65536 * b) 16 in
+    ap (λ m. (m * 10000 % 4294967296 + (a + 65536 * b) / 65536) % 4294967296) low ∙ omega arith
 
 -- the vector of eights that the code computes of all fours
 abbrev pub eight_lanes : List ℕ → List ℕ
 eight_lanes fours =
-    zip2 (λ a b. (a + b) % 18446744073709551616)
-    (zip2 (λ a b. a * b % 18446744073709551616) (zip2 bit_and
-    (digits_l 18446744073709551616 4 (number_l 256 (digits_l 256 32 (number_l 4294967296 fours))))
-    (replicate 4 4294967295)) (replicate 4 10000))
-    (zip2 (λ a b. a / 2 ^ b)
-    (digits_l 18446744073709551616 4 (number_l 256 (digits_l 256 32 (number_l 4294967296 fours))))
-    (replicate 4 32))
+    joined_lanes 4294967296 4 65535 10000 16
+    (digits_l 4294967296 4 (number_l 256 (digits_l 256 16 (number_l 65536 fours))))
 
 pub eights-lane : (fours : List ℕ) (j : ℕ) → length fours ≡ 8 → All (λ f. f < 10000) fours → j < 4
     → get_or (eight_lanes fours) j 0
     ≡ get_or fours (2 * j) 0 * 10000 + get_or fours (2 * j + 1) 0
 eights-lane fours j long small below =
-    let lanes : List ℕ =
-    digits_l 18446744073709551616 4 (number_l 256 (digits_l 256 32 (number_l 4294967296 fours))) in
-    let low : List ℕ =
-    zip2 (λ a b. a * b % 18446744073709551616) (zip2 bit_and lanes (replicate 4 4294967295))
-    (replicate 4 10000) in
-    let high : List ℕ = zip2 (λ a b. a / 2 ^ b) lanes (replicate 4 32) in
-    get_or-zip2 (λ a b. (a + b) % 18446744073709551616) low high j 0 0 0 below below
-    ∙ ap₂ (λ a b. (a + b) % 18446744073709551616)
-    (lane-twice (λ a b. a * b % 18446744073709551616) bit_and lanes 4 4294967295 10000 j refl below)
-    (ap (λ l. get_or l j 0) (zip2_splat (λ a b. a / 2 ^ b) lanes 4 32 refl)
-    ∙ get_or-map (λ x. x / 4294967296) lanes j 0 0 below)
-    ∙ ap halves_joined
-    (wide-by_bytes 4294967296 18446744073709551616 4 32 fours j refl refl
-    (below-from 10000 fours small 4294967296 (omega arith)) long below)
+    joined-lane 4294967296 4 65535 10000 16
+    (digits_l 4294967296 4 (number_l 256 (digits_l 256 16 (number_l 65536 fours)))) j refl below
+    ∙ ap (halves_joined 4294967296 65535 10000 16)
+    (wide-by_bytes 65536 4294967296 4 16 fours j refl refl
+    (below-from 10000 fours small 65536 (omega arith)) long below)
     ∙ eight-from (get_or fours (2 * j) 0) (get_or fours (2 * j + 1) 0)
     (small (2 * j) 0 (omega (arith, below, long)))
     (small (2 * j + 1) 0 (omega (arith, below, long)))
@@ -237,12 +267,17 @@ no-hit (x ∷ xs) = by (eqb x 45) refl (no-hit xs)
         rw is (past-none (256 * number_l 256 (map hit xs)) ∙ none-above (number_l 256 (map hit xs))
         ∙ rest)
 
-pub minus-lane : (bytes : List ℕ) (j : ℕ) → length bytes ≡ 32 → j < 4
-    → (get_or (digits_l 18446744073709551616 4 (number_l 256
+-- the words of the bytes, with 255 at each minus sign and 0 elsewhere
+abbrev pub hit_words : List ℕ → List ℕ
+hit_words bytes =
+    digits_l 18446744073709551616 4 (number_l 256
     (sel_l (map (top 7) (zip2 (λ a b. cond (eqb a b) 255 0) bytes (replicate 32 45)))
-    (replicate 32 255) (replicate 32 0)))) j 0 == 0)
+    (replicate 32 255) (replicate 32 0)))
+
+hit-lane : (bytes : List ℕ) (j : ℕ) → length bytes ≡ 32 → j < 4
+    → (get_or (hit_words bytes) j 0 == 0)
     ≡ not (list_any (λ b. b == 45) (take 8 (drop (8 * j) bytes)))
-minus-lane bytes j long below =
+hit-lane bytes j long below =
     let small : Each1 (λ x. x < 256) (map hit bytes) =
     Each1-from_get_or (λ x. x < 256) (map hit bytes) 0 (λ i l.
     let here : i < length bytes = omega (arith, l, length-map bytes hit) in
@@ -254,6 +289,42 @@ minus-lane bytes j long below =
     ∙ ap (λ l. number_l 256 (take 8 l) == 0) (drop-map hit (8 * j) bytes)
     ∙ ap (λ l. number_l 256 l == 0) (take-map hit 8 (drop (8 * j) bytes))
     ∙ no-hit (take 8 (drop (8 * j) bytes))
+
+-- 1 where a word is not 0, else 0
+abbrev pub mark_lanes : List ℕ → List ℕ
+mark_lanes words =
+    sel_l (map (top 63)
+    (zip2 (λ a b. cond (not (eqb a b)) 18446744073709551615 0) words (replicate 4 0)))
+    (replicate 4 1) (replicate 4 0)
+
+mark : ℕ → ℕ
+mark n = cond (not (eqb n 0)) 1 0
+
+marks-are : (words : List ℕ) → length words ≡ 4 → mark_lanes words ≡ map mark words
+unfolding mark
+marks-are words long =
+    ap (λ ms. sel_l ms (replicate 4 1) (replicate 4 0))
+    (tops_compared w64 (λ a b. not (eqb a b)) words (replicate 4 0)
+    ∙ zip2_splat (λ a b. not (eqb a b)) words 4 0 long)
+    ∙ selected (λ n. not (eqb n 0)) words 4 1 0 long
+
+mark-zero : (n : ℕ) → (mark n == 0) ≡ (n == 0)
+unfolding mark
+mark-zero n = by (eqb n 0)
+  where
+    by : (b : Bool) → (cond (not b) 1 0 == 0) ≡ b
+    by true = refl
+    by false = refl
+
+pub minus-lane : (bytes : List ℕ) (j : ℕ) → length bytes ≡ 32 → j < 4
+    → (get_or (map (λ x. x) (mark_lanes (hit_words bytes))) j 0 == 0)
+    ≡ not (list_any (λ b. b == 45) (take 8 (drop (8 * j) bytes)))
+minus-lane bytes j long below =
+    ap (λ l. get_or (map (λ x. x) l) j 0 == 0) (marks-are (hit_words bytes) refl)
+    ∙ ap (λ n. n == 0) (get_or-map (λ x. x) (map mark (hit_words bytes)) j 0 0 below
+    ∙ get_or-map mark (hit_words bytes) j 0 0 below)
+    ∙ mark-zero (get_or (hit_words bytes) j 0)
+    ∙ hit-lane bytes j long below
 
 selected-own : (p : ℕ → Bool) (v : List ℕ) (n x : ℕ) → length v ≡ n
     → sel_l (map p v) (replicate n x) v ≡ map (λ b. cond (p b) x b) v
@@ -301,70 +372,57 @@ digits-are v long fits =
 
 -- ## Signs
 
-unlike : ℕ → ℕ → Bool
-unlike a b = not (eqb a b)
-
-abbrev less : ℕ → ℕ → ℕ
-less a b = (a + (18446744073709551616 - b)) % 18446744073709551616
-
 turned-from : (m n : ℕ) → n < 100000000
-    → bit_and (cond (not (eqb m 0)) (less 4294967296 n) n) 4294967295 ≡ turned m n
+    → cond (not (eqb m 0)) ((0 + (4294967296 - n)) % 4294967296) n ≡ turned m n
 turned-from m n small = by (eqb m 0) refl
   where
     by : (b : Bool) → eqb m 0 ≡ b
-        → bit_and (cond (not (eqb m 0)) (less 4294967296 n) n) 4294967295 ≡ turned m n
-    by true is = rw is (and_mask n 32 ∙ omega (arith, small))
-    by false is = rw is (and_mask (less 4294967296 n) 32 ∙ omega (arith, small))
+        → cond (not (eqb m 0)) ((0 + (4294967296 - n)) % 4294967296) n ≡ turned m n
+    by true is = rw is refl
+    by false is = rw is (omega arith)
 
-pub turned-lane : (minus numbers : List ℕ) (j : ℕ) → length minus ≡ 4 → length numbers ≡ 4
-    → All (λ n. n < 100000000) numbers → j < 4
-    → get_or (zip2 bit_and (sel_l (map (top 63)
-    (zip2 (λ a b. cond (not (eqb a b)) 18446744073709551615 0) minus (replicate 4 0)))
-    (zip2 (λ a b. (a + (18446744073709551616 - b)) % 18446744073709551616)
-    (replicate 4 4294967296) numbers) numbers) (replicate 4 4294967295)) j 0
-    ≡ turned (get_or minus j 0) (get_or numbers j 0)
-turned-lane minus numbers j longer long small below =
-    let marks : List Bool = map (λ m. not (eqb m 0)) minus in
-    let turns : List ℕ = map (λ n. less 4294967296 n) numbers in
-    let chosen : List ℕ = sel_l marks turns numbers in
-    let size : length marks ≡ 4 = length-map minus (λ m. not (eqb m 0)) ∙ longer in
-    let wide : length turns ≡ 4 = length-map numbers (λ n. less 4294967296 n) ∙ long in
-    let all : length chosen ≡ 4 =
-    length-sel_l marks turns numbers (size ∙ sym wide) (size ∙ sym long) ∙ size in
-    ap (λ ms. get_or (zip2 bit_and (sel_l ms (zip2 less (replicate 4 4294967296) numbers) numbers)
-    (replicate 4 4294967295)) j 0)
-    (tops_compared w64 (λ a b. not (eqb a b)) minus (replicate 4 0)
-    ∙ zip2_splat (λ a b. not (eqb a b)) minus 4 0 longer)
-    ∙ ap (λ xs. get_or (zip2 bit_and (sel_l marks xs numbers) (replicate 4 4294967295)) j 0)
-    (zip2_splat_left less 4294967296 4 numbers long)
-    ∙ ap (λ l. get_or l j 0) (zip2_splat bit_and chosen 4 4294967295 all)
-    ∙ get_or-map (λ x. bit_and x 4294967295) chosen j 0 0 (omega (arith, below, all))
-    ∙ ap (λ x. bit_and x 4294967295) (get_or-sel_l marks turns numbers j 0
-    (omega (arith, below, size)) (omega (arith, below, wide)) (omega (arith, below, long))
-    ∙ ap₂ (λ b x. cond b x (get_or numbers j 0))
-    (get_or-map (λ m. not (eqb m 0)) minus j 0 false (omega (arith, below, longer)))
-    (get_or-map (λ n. less 4294967296 n) numbers j 0 0 (omega (arith, below, long))))
-    ∙ turned-from (get_or minus j 0) (get_or numbers j 0)
-    (small j 0 (omega (arith, below, long)))
+-- the vector of the numbers, turned where they are marked
+abbrev pub turned_lanes : List ℕ → List ℕ → List ℕ
+turned_lanes minus numbers =
+    sel_l (map (top 31)
+    (zip2 (λ a b. cond (not (eqb a b)) 4294967295 0) minus (replicate 4 0)))
+    (zip2 (λ a b. (a + (4294967296 - b)) % 4294967296) (replicate 4 0) numbers) numbers
 
-pub turned-long : (minus numbers : List ℕ) → length minus ≡ 4 → length numbers ≡ 4
-    → length (zip2 bit_and (sel_l (map (top 63)
-    (zip2 (λ a b. cond (not (eqb a b)) 18446744073709551615 0) minus (replicate 4 0)))
-    (zip2 (λ a b. (a + (18446744073709551616 - b)) % 18446744073709551616)
-    (replicate 4 4294967296) numbers) numbers) (replicate 4 4294967295)) ≡ 4
-turned-long minus numbers longer long =
-    let ms : List Bool =
-    map (top 63) (zip2 (λ a b. cond (not (eqb a b)) 18446744073709551615 0) minus (replicate 4 0)) in
-    let xs : List ℕ = zip2 less (replicate 4 4294967296) numbers in
-    let size : length ms ≡ 4 =
-    length-map (zip2 (λ a b. cond (not (eqb a b)) 18446744073709551615 0) minus (replicate 4 0))
-    (top 63)
-    ∙ length-zip2 (λ a b. cond (not (eqb a b)) 18446744073709551615 0) minus (replicate 4 0) longer
-    ∙ longer in
-    let wide : length xs ≡ 4 = length-zip2 less (replicate 4 4294967296) numbers (sym long) in
-    let all : length (sel_l ms xs numbers) ≡ 4 =
-    length-sel_l ms xs numbers (size ∙ sym wide) (size ∙ sym long) ∙ size in
-    length-zip2 bit_and (sel_l ms xs numbers) (replicate 4 4294967295) all ∙ all
+module _ (minus numbers : List ℕ) (longer : length minus ≡ 4) (long : length numbers ≡ 4) where
+  abbrev turn : ℕ → ℕ
+  turn n = (0 + (4294967296 - n)) % 4294967296
+
+  turned-are : turned_lanes minus numbers
+      ≡ sel_l (map (λ m. not (eqb m 0)) minus) (map turn numbers) numbers
+  turned-are =
+      ap₂ (λ ms xs. sel_l ms xs numbers)
+      (tops_compared w32 (λ a b. not (eqb a b)) minus (replicate 4 0)
+      ∙ zip2_splat (λ a b. not (eqb a b)) minus 4 0 longer)
+      (zip2_splat_left (λ a b. (a + (4294967296 - b)) % 4294967296) 0 4 numbers long)
+
+  pub turned-long : length (turned_lanes minus numbers) ≡ 4
+  turned-long =
+      let size : length (map (λ m. not (eqb m 0)) minus) ≡ 4 =
+      length-map minus (λ m. not (eqb m 0)) ∙ longer in
+      let wide : length (map turn numbers) ≡ 4 = length-map numbers turn ∙ long in
+      ap length turned-are
+      ∙ length-sel_l (map (λ m. not (eqb m 0)) minus) (map turn numbers) numbers
+      (size ∙ sym wide) (size ∙ sym long)
+      ∙ size
+
+  pub turned-lane : (j : ℕ) → All (λ n. n < 100000000) numbers → j < 4
+      → get_or (turned_lanes minus numbers) j 0 ≡ turned (get_or minus j 0) (get_or numbers j 0)
+  turned-lane j small below =
+      let marks : List Bool = map (λ m. not (eqb m 0)) minus in
+      let size : length marks ≡ 4 = length-map minus (λ m. not (eqb m 0)) ∙ longer in
+      let wide : length (map turn numbers) ≡ 4 = length-map numbers turn ∙ long in
+      ap (λ l. get_or l j 0) turned-are
+      ∙ get_or-sel_l marks (map turn numbers) numbers j 0 (omega (arith, below, size))
+      (omega (arith, below, wide)) (omega (arith, below, long))
+      ∙ ap₂ (λ b x. cond b x (get_or numbers j 0))
+      (get_or-map (λ m. not (eqb m 0)) minus j 0 false (omega (arith, below, longer)))
+      (get_or-map turn numbers j 0 0 (omega (arith, below, long)))
+      ∙ turned-from (get_or minus j 0) (get_or numbers j 0) (small j 0 (omega (arith, below, long)))
 
 turned-below : (m n : ℕ) → n < 100000000 → turned m n < 4294967296
 turned-below m n small = by (m == 0) refl
@@ -402,39 +460,47 @@ value-from m n small = by (m == 0) refl
     by true is = rw is (positive n small)
     by false is = rw is (negative n small)
 
+digits-again : (xs : List ℕ) → Each1 (λ x. x < 4294967296) xs
+    → digits_l 4294967296 (length xs) (number_l 4294967296 xs) ≡ xs
+digits-again [] small = refl
+digits-again (x ∷ xs) small =
+    let rest : ℕ = number_l 4294967296 xs in
+    let first : (x + 4294967296 * rest) % 4294967296 ≡ x = omega (arith, small.0) in
+    let others : (x + 4294967296 * rest) / 4294967296 ≡ rest = omega (arith, small.0) in
+    ap₂ (λ a b. a ∷ digits_l 4294967296 (length xs) b) first others
+    ∙ ap (λ l. x ∷ l) (digits-again xs small.1)
+
+-- four lanes, by way of their bytes, are themselves
+lanes-again : (lanes : List ℕ) → length lanes ≡ 4 → Each1 (λ x. x < 4294967296) lanes
+    → digits_l 4294967296 4 (number_l 256 (digits_l 256 16 (number_l 4294967296 lanes))) ≡ lanes
+lanes-again lanes long small =
+    let within : number_l 4294967296 lanes < 256 ^ 16 =
+    subst (λ k. number_l 4294967296 lanes < 4294967296 ^ k) long (number-below 4294967296 lanes small) in
+    ap (λ x. digits_l 4294967296 4 x) (number-again 16 (number_l 4294967296 lanes) within)
+    ∙ ap (λ k. digits_l 4294967296 k (number_l 4294967296 lanes)) (sym long)
+    ∙ digits-again lanes small
+
 -- four lanes of `turned` numbers, as they are stored, are the numbers with their signs
-pub values-are : (minus numbers lanes : List ℕ) (a b c d : ℤ) → length minus ≡ 4 → length numbers ≡ 4
-    → All (λ n. n < 100000000) numbers
+pub values-are : (minus numbers lanes : List ℕ) → length minus ≡ 4 → length numbers ≡ 4
+    → length lanes ≡ 4 → All (λ n. n < 100000000) numbers → All (λ n. n < 4294967296) lanes
     → ((j : ℕ) → j < 4 → get_or lanes j 0 ≡ turned (get_or minus j 0) (get_or numbers j 0))
-    → a ≡ to_z w32 (get_or lanes 0 0) → b ≡ to_z w32 (get_or lanes 1 0)
-    → c ≡ to_z w32 (get_or lanes 2 0) → d ≡ to_z w32 (get_or lanes 3 0)
-    → a ∷ b ∷ c ∷ d ∷ [] ≡ zip2 (λ m n. signed_by (not (m == 0)) n) minus numbers
-values-are (m ∷ n ∷ o ∷ p ∷ []) (x ∷ y ∷ z ∷ w ∷ []) lanes a b c d longer long small each ea eb ec ed =
-    let one = ea ∙ ap (to_z w32) (each 0 (omega arith)) ∙ value-from m x (small 0 0 (omega arith)) in
-    let two = eb ∙ ap (to_z w32) (each 1 (omega arith)) ∙ value-from n y (small 1 0 (omega arith)) in
-    let three = ec ∙ ap (to_z w32) (each 2 (omega arith)) ∙ value-from o z (small 2 0 (omega arith)) in
-    let four = ed ∙ ap (to_z w32) (each 3 (omega arith)) ∙ value-from p w (small 3 0 (omega arith)) in
-    λ i. one i ∷ two i ∷ three i ∷ four i ∷ []
-values-are [] numbers lanes a b c d longer long small each ea eb ec ed = absurd (omega (arith, longer))
-values-are (m ∷ []) numbers lanes a b c d longer long small each ea eb ec ed =
-    absurd (omega (arith, longer))
-values-are (m ∷ n ∷ []) numbers lanes a b c d longer long small each ea eb ec ed =
-    absurd (omega (arith, longer))
-values-are (m ∷ n ∷ o ∷ []) numbers lanes a b c d longer long small each ea eb ec ed =
-    absurd (omega (arith, longer))
-values-are (m ∷ n ∷ o ∷ p ∷ q ∷ more) numbers lanes a b c d longer long small each ea eb ec ed =
-    absurd (omega (arith, longer))
-values-are (m ∷ n ∷ o ∷ p ∷ []) [] lanes a b c d longer long small each ea eb ec ed =
-    absurd (omega (arith, long))
-values-are (m ∷ n ∷ o ∷ p ∷ []) (x ∷ []) lanes a b c d longer long small each ea eb ec ed =
-    absurd (omega (arith, long))
-values-are (m ∷ n ∷ o ∷ p ∷ []) (x ∷ y ∷ []) lanes a b c d longer long small each ea eb ec ed =
-    absurd (omega (arith, long))
-values-are (m ∷ n ∷ o ∷ p ∷ []) (x ∷ y ∷ z ∷ []) lanes a b c d longer long small each ea eb ec ed =
-    absurd (omega (arith, long))
-values-are (m ∷ n ∷ o ∷ p ∷ []) (x ∷ y ∷ z ∷ w ∷ v ∷ more) lanes a b c d longer long small each ea
-    eb ec ed =
-    absurd (omega (arith, long))
+    → map (to_z w32)
+    (digits_l 4294967296 4 (number_l 256 (digits_l 256 16 (number_l 4294967296 lanes))))
+    ≡ zip2 (λ m n. signed_by (not (m == 0)) n) minus numbers
+values-are minus numbers lanes longer long size small fits each =
+    let f : ℕ → ℕ → ℤ = λ m n. signed_by (not (m == 0)) n in
+    let wide : length (zip2 f minus numbers) ≡ 4 =
+    length-zip2 f minus numbers (longer ∙ sym long) ∙ longer in
+    let high : length (map (to_z w32) lanes) ≡ 4 = length-map lanes (to_z w32) ∙ size in
+    let below : Each1 (λ x. x < 4294967296) lanes =
+    Each1-from_get_or (λ x. x < 4294967296) lanes 0 (λ i l. fits i 0 l) in
+    ap (map (to_z w32)) (lanes-again lanes size below)
+    ∙ same_lists (map (to_z w32) lanes) (zip2 f minus numbers) (high ∙ sym wide) (λ k d l.
+    let here : k < 4 = omega (arith, l, high) in
+    get_or-map (to_z w32) lanes k 0 d (omega (arith, here, size))
+    ∙ ap (to_z w32) (each k here)
+    ∙ value-from (get_or minus k 0) (get_or numbers k 0) (small k 0 (omega (arith, here, long)))
+    ∙ sym (get_or-zip2 f minus numbers k 0 0 d (omega (arith, here, longer)) (omega (arith, here, long))))
 
 -- ## All lanes of words
 

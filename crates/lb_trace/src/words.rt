@@ -16,7 +16,7 @@
 //! ```
 //!
 //! Each step makes one number of two neighbours: the first times 10, 100 or 10,000, plus the other.
-//! So it leaves half as many lanes, each of them twice as wide.
+//! So it leaves half as many lanes.
 
 ghost use Rattle.std.specs.Prelude.{◌≡◌, ℕ, ◌+◌, ◌-◌, ◌*◌, ◌<◌, ◌==◌, All, not, drop, get_or};
 ghost use Rattle.std.specs.Prelude.{length, map, take};
@@ -48,9 +48,9 @@ fn digits_of(bytes: u8x32) -> u8x32
     bytes.saturating_sub(u8x32::splat(b'0'))
 }
 
-// The number that each two digits make.
+// The number that each two digits make: the higher byte of 2561 times the two bytes.
 #[inline(always)]
-fn pairs_of(digits: u8x32) -> u16x16
+fn pairs_of(digits: u8x32) -> u8x16
     requires long { length digits ≡ 32 }
     requires small { All (λ d. d < 10) digits }
     ensures long { length result ≡ 16 }
@@ -58,12 +58,13 @@ fn pairs_of(digits: u8x32) -> u16x16
         → get_or result j 0 ≡ get_or digits (2 * j) 0 * 10 + get_or digits (2 * j + 1) 0 }
     ensures small { All (λ p. p < 100) result }
 {
-    (u16x16::from_le_bytes(digits) * u16x16::splat(2561)) >> u16x16::splat(8)
+    let products = u16x16::from_le_bytes(digits) * u16x16::splat(2561);
+    products.to_le_bytes().swizzle([1, 3, 5, 7, 9, 11, 13, 15, 17, 19, 21, 23, 25, 27, 29, 31])
 }
 
 // The number that each two pairs make.
 #[inline(always)]
-fn fours_of(pairs: u16x16) -> u32x8
+fn fours_of(pairs: u8x16) -> u16x8
     requires long { length pairs ≡ 16 }
     requires small { All (λ p. p < 100) pairs }
     ensures long { length result ≡ 8 }
@@ -71,13 +72,13 @@ fn fours_of(pairs: u16x16) -> u32x8
         → get_or result j 0 ≡ get_or pairs (2 * j) 0 * 100 + get_or pairs (2 * j + 1) 0 }
     ensures small { All (λ f. f < 10000) result }
 {
-    let both = u32x8::from_le_bytes(pairs.to_le_bytes());
-    (both * u32x8::splat(6_553_601)) >> u32x8::splat(16)
+    let both = u16x8::from_le_bytes(pairs);
+    (both & u16x8::splat(0xFF)) * u16x8::splat(100) + (both >> u16x8::splat(8))
 }
 
 // The number that each two fours make.
 #[inline(always)]
-fn eights_of(fours: u32x8) -> u64x4
+fn eights_of(fours: u16x8) -> u32x4
     requires long { length fours ≡ 8 }
     requires small { All (λ f. f < 10000) fours }
     ensures long { length result ≡ 4 }
@@ -85,13 +86,13 @@ fn eights_of(fours: u32x8) -> u64x4
         → get_or result j 0 ≡ get_or fours (2 * j) 0 * 10000 + get_or fours (2 * j + 1) 0 }
     ensures small { All (λ n. n < 100000000) result }
 {
-    let both = u64x4::from_le_bytes(fours.to_le_bytes());
-    (both & u64x4::splat(0xFFFF_FFFF)) * u64x4::splat(10_000) + (both >> u64x4::splat(32))
+    let both = u32x4::from_le_bytes(fours.to_le_bytes());
+    (both & u32x4::splat(0xFFFF)) * u32x4::splat(10_000) + (both >> u32x4::splat(16))
 }
 
-// The words with 255 at each minus sign, and 0 elsewhere.
+// For each word, 1 where it has a minus sign, else 0.
 #[inline(always)]
-fn minus_of(bytes: u8x32) -> u64x4
+fn minus_of(bytes: u8x32) -> u32x4
     requires { length bytes ≡ 32 }
     ensures long { length result ≡ 4 }
     ensures minus { (j : ℕ) → j < 4 → (get_or result j 0 == 0)
@@ -100,12 +101,15 @@ fn minus_of(bytes: u8x32) -> u64x4
     let hits = bytes
         .simd_eq(u8x32::splat(b'-'))
         .select(u8x32::splat(255), u8x32::splat(0));
-    u64x4::from_le_bytes(hits)
+    let has_hit = u64x4::from_le_bytes(hits).simd_ne(u64x4::splat(0));
+    has_hit
+        .select(u64x4::splat(1), u64x4::splat(0))
+        .cast::<u32>()
 }
 
 // Each number `n`, or 2^32 - n in 32 bits where its word has a minus sign.
 #[inline(always)]
-fn turned_of(minus: u64x4, numbers: u64x4) -> u64x4
+fn turned_of(minus: u32x4, numbers: u32x4) -> u32x4
     requires long { length numbers ≡ 4 }
     requires minus { length minus ≡ 4 }
     requires small { All (λ n. n < 100000000) numbers }
@@ -114,24 +118,20 @@ fn turned_of(minus: u64x4, numbers: u64x4) -> u64x4
         → get_or result j 0 ≡ turned (get_or minus j 0) (get_or numbers j 0) }
     ensures small { All (λ n. n < 4294967296) result }
 {
-    let is_negative = minus.simd_ne(u64x4::splat(0));
-    let turned = is_negative.select(u64x4::splat(0x1_0000_0000) - numbers, numbers);
-    turned & u64x4::splat(0xFFFF_FFFF)
+    let is_negative = minus.simd_ne(u32x4::splat(0));
+    is_negative.select(u32x4::splat(0) - numbers, numbers)
 }
 
 // The numbers with their signs: negative where the word has a minus sign.
 #[inline(always)]
-fn signed(minus: u64x4, numbers: u64x4) -> [i32; 4]
+fn signed(minus: u32x4, numbers: u32x4) -> [i32; 4]
     requires long { length numbers ≡ 4 }
     requires minus { length minus ≡ 4 }
     requires small { All (λ n. n < 100000000) numbers }
     ensures { result ≡ zip2 (λ m n. signed_by (not (m == 0)) n) minus numbers }
 {
-    let [a, b, c, d] = turned_of(minus, numbers).cast::<u32>().to_array();
-    [
-        a.cast_signed(),
-        b.cast_signed(),
-        c.cast_signed(),
-        d.cast_signed(),
-    ]
+    let turned = turned_of(minus, numbers);
+    let mut values = [0; 4];
+    i32x4::from_le_bytes(turned.to_le_bytes()).copy_to_slice(&mut values);
+    values
 }

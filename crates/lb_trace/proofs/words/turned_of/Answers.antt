@@ -6,7 +6,7 @@ returns-clause-long c = turned-long c.args.minus c.args.numbers c.requires.minus
 
 pub returns-clause-lanes : goal.returns-clause-lanes
 returns-clause-lanes c = λ j below.
-    turned-lane c.args.minus c.args.numbers j c.requires.minus c.requires.long c.requires.small below
+    turned-lane c.args.minus c.args.numbers c.requires.minus c.requires.long j c.requires.small below
 
 pub returns-clause-small : goal.returns-clause-small
 returns-clause-small c =
@@ -14,4 +14,4 @@ returns-clause-small c =
     (turned-long c.args.minus c.args.numbers c.requires.minus c.requires.long) c.requires.long
     c.requires.small
     (λ j below.
-    turned-lane c.args.minus c.args.numbers j c.requires.minus c.requires.long c.requires.small below)
+    turned-lane c.args.minus c.args.numbers c.requires.minus c.requires.long j c.requires.small below)
