@@ -38,7 +38,7 @@ module _ (size : ℕ) where
       (later Q given X t)
 
   -- row `t` of a run is the row of the equations before instant `t`
-  run_row :
+  pub run_row :
       (Q : List FlatEquation) (X : Inputs) (t : ℕ) → t < length X →
       get_or (run size Q X) t [] ≡ row_of size (equations_before size Q X t) (get_or X t [])
   run_row Q [] t lt = absurd (omega arith)

@@ -25,7 +25,6 @@ use std::alloc::{AllocError, Global};
 ///     let cell = replay.cell(ElementId(0));
 /// }
 /// ```
-#[derive(Drop)]
 pub struct Replay<'a> {
     program: &'a FlatProgram,
     set: &'a TraceSet,
@@ -50,6 +49,22 @@ pub struct Replay<'a> {
     ghost within: { next ≤ instants },
     ghost replayed: { IsReplayed program.now (inputs_of set.now trace) next equations.items
         row.items } by { Prim.hlevel replayed_props },
+}
+
+// Not derived, so that a caller drops it in one step.
+impl Drop for Replay<'_> {
+    fn drop(self) {
+        let Replay {
+            program: _,
+            set: _,
+            kinds: _,
+            trace: _,
+            instants: _,
+            next: _,
+            equations: _,
+            row: _,
+        } = self;
+    }
 }
 
 /// The kind of each column of a signature.
