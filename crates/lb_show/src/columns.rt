@@ -35,13 +35,14 @@ impl Signal {
 impl Signals {
     /// The name of an element with that of its instance.
     fn full_name(&self, alloc: Global, signal: &Signal) -> Result<String, AllocError> {
-        let mut name = String::new(alloc);
-        if let Some(scope) = self.scopes.get(signal.scope) {
-            name.push_str(scope.name.as_str())?;
-            name.push_str(".")?;
+        let label = signal.label.as_str();
+        match self.scopes.get(signal.scope) {
+            Some(scope) => {
+                let instance = scope.name.as_str();
+                format!(in alloc; "{instance}.{label}")
+            }
+            None => String::from_str(alloc, label),
         }
-        name.push_str(signal.label.as_str())?;
-        Ok(name)
     }
 
     /// Adds an element to those that are shown.
@@ -96,6 +97,14 @@ impl Signals {
         Ok(columns.len().saturating_sub(before))
     }
 
+    /// Whether an element is of the node under test or of the observer.
+    fn is_of_start(&self, signal: &Signal) -> bool {
+        match self.scopes.get(signal.scope) {
+            Some(scope) => scope.is_start,
+            None => false,
+        }
+    }
+
     /// The elements that are shown, in their order.
     pub(crate) fn columns(
         &self,
@@ -113,14 +122,10 @@ impl Signals {
                     }
                 }
             }
-            Selection::All => {
+            Selection::All | Selection::Starts => {
+                let is_all = matches!(selection, Selection::All);
                 for signal in &self.signals {
-                    self.push_column(alloc, signal, &mut columns)?;
-                }
-            }
-            Selection::Starts => {
-                for signal in &self.signals {
-                    if self.scopes.get(signal.scope).is_some_and(|s| s.is_start) {
+                    if is_all || self.is_of_start(signal) {
                         self.push_column(alloc, signal, &mut columns)?;
                     }
                 }

@@ -9,18 +9,19 @@ use crate::csv::CsvText;
 use crate::error::ShowError;
 use crate::marks::{Marks, Shown};
 use crate::options::{Format, ShowOptions};
+use crate::page::Page;
 use crate::player::Player;
 use crate::signals::{Signals, signals_of};
 use crate::svg::{MOST_INSTANTS, Picture};
 use crate::table::{Block, push_title};
 use crate::vcd::Dump;
 use crate::verdict_line::deciding;
-use crate::write::CHUNK;
 use lb_check::{Checked, Verdict};
 use lb_flat::{FlatProgram, Ordered, eval_trace};
 use lb_history::Cell;
 use lb_traces::TraceSet;
 use std::alloc::{AllocError, Global};
+use std::mem::replace;
 
 /// The number of the trace with a name.
 fn trace_named(set: &TraceSet, name: &str) -> Option<u32>
@@ -68,40 +69,29 @@ enum Painter {
 
 impl Painter {
     /// Adds the text before the first instant.
-    fn begin(
-        &mut self,
-        alloc: Global,
-        text: &mut Vec<u8>,
-        shown: &Shown,
-    ) -> Result<(), AllocError> {
+    fn begin(&mut self, alloc: Global, page: &mut Page, shown: &Shown) {
         match self {
-            Painter::Table(_) => push_title(text, shown),
-            Painter::Vcd(dump) => dump.push_header(alloc, text, shown),
-            Painter::Svg(_) => Ok(()),
+            Painter::Table(_) => push_title(page, shown),
+            Painter::Vcd(dump) => dump.push_header(alloc, page, shown),
+            Painter::Svg(_) => {}
         }
     }
 
     /// Adds the cells of an instant.
-    fn push(
-        &mut self,
-        text: &mut Vec<u8>,
-        shown: &Shown,
-        t: u32,
-        cells: &[Cell],
-    ) -> Result<(), AllocError> {
+    fn push(&mut self, page: &mut Page, shown: &Shown, t: u32, cells: &[Cell]) {
         match self {
-            Painter::Table(block) => block.push(text, shown, t, cells),
-            Painter::Vcd(dump) => dump.push_instant(text, shown, t, cells),
-            Painter::Svg(picture) => picture.push(cells),
+            Painter::Table(block) => block.push(page, shown, t, cells),
+            Painter::Vcd(dump) => dump.push_instant(page, shown, t, cells),
+            Painter::Svg(picture) => picture.push(page, cells),
         }
     }
 
     /// Adds the text that is left at the end.
-    fn end(&mut self, text: &mut Vec<u8>, shown: &Shown) -> Result<(), AllocError> {
+    fn end(&mut self, page: &mut Page, shown: &Shown) {
         match self {
-            Painter::Table(block) => block.write(text, shown),
-            Painter::Vcd(dump) => dump.push_end(text, shown),
-            Painter::Svg(picture) => picture.write(text, shown),
+            Painter::Table(block) => block.write(page, shown),
+            Painter::Vcd(dump) => dump.push_end(page, shown),
+            Painter::Svg(picture) => picture.write(page, shown),
         }
     }
 }
@@ -149,52 +139,62 @@ struct Painting<'a> {
 }
 
 impl<'a> Painting<'a> {
-    ghost use Rattle.std.specs.Prelude.{◌+◌, true, false, Ok, OnOk};
+    ghost use Rattle.std.specs.Prelude.{◌+◌, true, false, Ok};
     ghost use Rattle.lb_show.specs.Players.{next_played};
     ghost use Rattle.lb_show.specs.Paintings.{instants_left, parts_left};
 
     /// Paints the next instant.
-    fn paint_instant(&mut self, text: &mut Vec<u8>) -> Result<(), AllocError>
+    fn paint_instant(&mut self, page: &mut Page)
         requires { next_played self.old.player < self.old.player.end }
-        ensures fewer { OnOk result (instants_left self.new < instants_left self.old) }
-        ensures begun { OnOk result (self.new.is_begun ≡ self.old.is_begun) }
+        ensures fewer { instants_left self.new < instants_left self.old }
+        ensures begun { self.new.is_begun ≡ self.old.is_begun }
     {
         let shown = self.subject.shown();
         let t = self.player.next();
         self.player.advance();
-        self.player.read(shown.columns, &mut self.cells)?;
-        self.painter.push(text, &shown, t, self.cells.as_slice())
+        let read = self.player.read(shown.columns, &mut self.cells);
+        page.cut_if(read.is_err());
+        self.painter.push(page, &shown, t, self.cells.as_slice());
     }
 
     /// Paints instants until a part is full, at least one.
-    fn paint_instants(&mut self, text: &mut Vec<u8>) -> Result<(), AllocError>
+    fn paint_instants(&mut self, page: &mut Page)
         requires { next_played self.old.player < self.old.player.end }
-        ensures fewer { OnOk result (instants_left self.new < instants_left self.old) }
-        ensures begun { OnOk result (self.new.is_begun ≡ self.old.is_begun) }
+        ensures fewer { instants_left self.new < instants_left self.old }
+        ensures begun { self.new.is_begun ≡ self.old.is_begun }
     {
-        self.paint_instant(text)?;
-        'instants: while self.player.has_next() && text.len() < CHUNK {
-            self.paint_instant(text)?;
+        self.paint_instant(page);
+        'instants: while self.player.has_next() && !page.is_full() {
+            self.paint_instant(page);
         }
-        Ok(())
     }
 
-    /// Adds the next part of the text, and returns whether more is left: first the text before the
-    /// first instant, then instants, and then the text at the end.
+    /// Paints the next part, and returns whether more is left: first the text before the first
+    /// instant, then instants, and then the text at the end.
+    fn paint(&mut self, page: &mut Page) -> bool
+        ensures { result ≡ true → parts_left self.new < parts_left self.old }
+    {
+        if !self.is_begun {
+            self.painter.begin(self.alloc, page, &self.subject.shown());
+            self.is_begun = true;
+            return true;
+        }
+        if !self.player.has_next() {
+            self.painter.end(page, &self.subject.shown());
+            return false;
+        }
+        self.paint_instants(page);
+        true
+    }
+
+    /// Adds the next part of the text, and returns whether more is left.
     fn write(&mut self, text: &mut Vec<u8>) -> Result<bool, AllocError>
         ensures { result ≡ Ok true → parts_left self.new < parts_left self.old }
     {
-        if !self.is_begun {
-            self.painter.begin(self.alloc, text, &self.subject.shown())?;
-            self.is_begun = true;
-            return Ok(true);
-        }
-        if !self.player.has_next() {
-            self.painter.end(text, &self.subject.shown())?;
-            return Ok(false);
-        }
-        self.paint_instants(text)?;
-        Ok(true)
+        let mut page = Page::of(replace(text, Vec::new(self.alloc)));
+        let is_more = self.paint(&mut page);
+        *text = page.whole()?;
+        Ok(is_more)
     }
 }
 
@@ -218,32 +218,33 @@ enum Text<'a> {
 /// }
 /// send(sink, &text)?;
 /// ```
-#[derive(Drop)]
 pub struct Show<'a> {
     text: Text<'a>,
 }
 
-/// For each element that is shown, whether it has the value of a fault somewhere. Only the instant
-/// that decides may have some.
-fn bad_columns(
+// Not derived, so that a caller drops it in one step.
+impl Drop for Show<'_> {
+    fn drop(self) {
+        let Show { text: _ } = self;
+    }
+}
+
+/// The cells of the elements that are shown, at the instant before `end`.
+fn last_cells(
     alloc: Global,
     ordered: &Ordered,
     set: &TraceSet,
     k: u32,
     end: u32,
     columns: &[Column],
-) -> Result<Vec<bool>, AllocError>
+) -> Result<Vec<Cell>, AllocError>
     requires trace { k < length set.now.traces }
     requires end { end ≤ length (trace_at set.now.traces k).1 }
 {
     let player = Player::new(alloc, ordered, set, k, end, end)?;
     let mut cells = Vec::new(alloc);
     player.read(columns, &mut cells)?;
-    let mut bad = Vec::new(alloc);
-    for cell in cells {
-        bad.push(cell == Cell::Bad)?;
-    }
-    Ok(bad)
+    Ok(cells)
 }
 
 /// The number of the last instants that are shown; `None` for all.
@@ -256,15 +257,15 @@ fn last_of(options: &ShowOptions<'_>) -> Option<u32>
     }
 }
 
-/// The painter of a format, where `bad` says which elements have the value of a fault somewhere.
-/// Comma-separated values have no painter.
-fn painter_of(alloc: Global, format: Format, bad: Vec<bool>) -> Option<Painter>
+/// The painter of a format. Comma-separated values have none. `last` has the cells of the last
+/// instant; only a value change dump asks for them.
+fn painter_of(alloc: Global, format: Format, last: Vec<Cell>) -> Option<Painter>
     ensures { IfSome result (λ painter. format ≢ Format.Csv) }
 {
     match format {
         Format::Csv => None,
         Format::Table => Some(Painter::Table(Block::new(alloc))),
-        Format::Vcd => Some(Painter::Vcd(Dump::new(alloc, bad))),
+        Format::Vcd => Some(Painter::Vcd(Dump::new(alloc, last))),
         Format::Svg => Some(Painter::Svg(Picture::new(alloc))),
     }
 }
@@ -305,11 +306,11 @@ impl<'a> Show<'a> {
         let end = end_at(deciding(verdict), set.length(k));
         let first = first_at(last_of(options), end);
         let player = Player::new(alloc, ordered, set, k, first, end)?;
-        let bad = match options.format {
-            Format::Vcd => bad_columns(alloc, ordered, set, k, end, columns.as_slice())?,
+        let last = match options.format {
+            Format::Vcd => last_cells(alloc, ordered, set, k, end, columns.as_slice())?,
             _ => Vec::new(alloc),
         };
-        match painter_of(alloc, options.format, bad) {
+        match painter_of(alloc, options.format, last) {
             None => Ok(Show::csv(alloc, player, columns)),
             Some(painter) => {
                 let subject = Subject {

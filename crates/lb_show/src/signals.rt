@@ -10,8 +10,8 @@
 use crate::lines::{Lines, Spot};
 use lb_flat::ElementId;
 use lb_static::{
-    Elab, Instance, Origin, Reached, ResolvedNode, Specialization, StaticInt, Table, VariableId,
-    elements_of, part_of,
+    CallSite, Elab, Instance, Origin, Reached, ResolvedNode, Specialization, StaticInt, Table,
+    VariableId, elements_of, part_of,
 };
 use lb_syntax::{Declarations, Kind, Name};
 use std::alloc::{AllocError, Global};
@@ -45,10 +45,19 @@ pub struct Signal {
 }
 
 /// The instances of a program and the elements of their variables, in their order.
-#[derive(Drop)]
 pub struct Signals {
     pub scopes: Vec<Scope>,
     pub signals: Vec<Signal>,
+}
+
+// Not derived, so that a caller drops it in one step.
+impl Drop for Signals {
+    fn drop(self) {
+        let Signals {
+            scopes: _,
+            signals: _,
+        } = self;
+    }
 }
 
 /// Adds the names that are declared in some groups.
@@ -110,32 +119,51 @@ impl<'a, 's> Names<'a, 's> {
         Some((specialization, node))
     }
 
-    /// The own name of an instance of a node.
-    fn label(&self, node: &ResolvedNode<'s>, origin: Origin) -> Result<String, AllocError> {
-        let mut label = String::from_str(self.alloc, node.tree.name.as_str())?;
+    /// The call by which an instance is reached, in the node of its caller; none for the node under
+    /// test and the observer.
+    fn call_of(&self, origin: Origin) -> Option<(&'a CallSite, u32)> {
         let Origin::Called {
             caller,
             call,
             index,
         } = origin
         else {
-            return Ok(label);
+            return None;
         };
-        let Some(row) = self.table.instances.get(caller.0 as usize) else {
-            return Ok(label);
-        };
-        let Some((_, calling)) = self.node_of(row) else {
-            return Ok(label);
-        };
-        let Some(site) = calling.calls.get(call.0) else {
-            return Ok(label);
+        let row = self.table.instances.get(caller.0 as usize)?;
+        let (_, calling) = self.node_of(row)?;
+        Some((calling.calls.get(call.0)?, index))
+    }
+
+    /// The own name of an instance of a node.
+    fn label(&self, node: &ResolvedNode<'s>, origin: Origin) -> Result<String, AllocError> {
+        let name = node.tree.name.as_str();
+        let Some((site, index)) = self.call_of(origin) else {
+            return String::from_str(self.alloc, name);
         };
         let Spot { line, column } = self.lines.spot(site.offset as usize);
-        write!(label, "@{line}:{column}")?;
         if site.count.is_some() {
-            write!(label, "[{index}]")?;
+            format!(in self.alloc; "{name}@{line}:{column}[{index}]")
+        } else {
+            format!(in self.alloc; "{name}@{line}:{column}")
         }
-        Ok(label)
+    }
+
+    /// The name of an instance behind those of its callers, where the scopes of the instances
+    /// before it are known.
+    fn name(
+        &self,
+        label: &str,
+        parent: Option<usize>,
+        before: &[Scope],
+    ) -> Result<String, AllocError> {
+        if let Some(place) = parent {
+            if let Some(above) = before.get(place) {
+                let caller = above.name.as_str();
+                return format!(in self.alloc; "{caller}.{label}");
+            }
+        }
+        String::from_str(self.alloc, label)
     }
 
     /// The scope of an instance, where the scopes of the instances before it are known.
@@ -145,22 +173,14 @@ impl<'a, 's> Names<'a, 's> {
         origin: Origin,
         before: &[Scope],
     ) -> Result<Scope, AllocError> {
-        let label = self.label(node, origin)?;
-        let mut name = String::new(self.alloc);
         let parent = match origin {
             Origin::Called { caller, .. } => Some(caller.0 as usize),
             _ => None,
         };
-        if let Some(place) = parent {
-            if let Some(above) = before.get(place) {
-                name.push_str(above.name.as_str())?;
-                name.push_str(".")?;
-            }
-        }
-        name.push_str(label.as_str())?;
+        let label = self.label(node, origin)?;
         Ok(Scope {
+            name: self.name(label.as_str(), parent, before)?,
             label,
-            name,
             parent,
             is_start: parent.is_none(),
         })

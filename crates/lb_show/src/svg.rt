@@ -5,11 +5,12 @@
 
 use crate::columns::Column;
 use crate::marks::Shown;
+use crate::page::Page;
 use crate::verdict_line::{deciding, push_verdict};
-use crate::write::{digits, push, push_integer, push_number};
+use crate::write::digits;
 use lb_history::Cell;
 use lb_syntax::Kind;
-use std::alloc::{AllocError, Global};
+use std::alloc::Global;
 
 /// The number of the last instants that a picture has, unless another number is asked for.
 pub(crate) const MOST_INSTANTS: u32 = 200;
@@ -60,41 +61,34 @@ fn text_width(characters: usize) -> usize {
 }
 
 /// Adds an attribute that is a number.
-fn push_attribute(text: &mut Vec<u8>, name: &str, n: usize) -> Result<(), AllocError> {
-    push(text, " ")?;
-    push(text, name)?;
-    push(text, "=\"")?;
-    push_number(text, n as u64)?;
-    push(text, "\"")
+fn push_attribute(page: &mut Page, name: &str, n: usize) {
+    page.push(" ");
+    page.push(name);
+    page.push("=\"");
+    page.push_number(n as u64);
+    page.push("\"");
 }
 
 /// Adds a text, with each character escaped that has a meaning of its own.
-fn push_escaped(text: &mut Vec<u8>, name: &str) -> Result<(), AllocError> {
+fn push_escaped(page: &mut Page, name: &str) {
     for b in name.as_bytes() {
         match *b {
-            b'&' => push(text, "&amp;")?,
-            b'<' => push(text, "&lt;")?,
-            b'>' => push(text, "&gt;")?,
-            b'"' => push(text, "&quot;")?,
-            other => text.push(other)?,
+            b'&' => page.push("&amp;"),
+            b'<' => page.push("&lt;"),
+            b'>' => page.push("&gt;"),
+            b'"' => page.push("&quot;"),
+            other => page.push_byte(other),
         }
     }
-    Ok(())
 }
 
 /// Adds a rectangle that begins at a place, without its colours.
-fn push_box(
-    text: &mut Vec<u8>,
-    x: usize,
-    y: usize,
-    width: usize,
-    height: usize,
-) -> Result<(), AllocError> {
-    push(text, "<rect")?;
-    push_attribute(text, "x", x)?;
-    push_attribute(text, "y", y)?;
-    push_attribute(text, "width", width)?;
-    push_attribute(text, "height", height)
+fn push_box(page: &mut Page, x: usize, y: usize, width: usize, height: usize) {
+    page.push("<rect");
+    push_attribute(page, "x", x);
+    push_attribute(page, "y", y);
+    push_attribute(page, "width", width);
+    push_attribute(page, "height", height);
 }
 
 impl Frame {
@@ -118,8 +112,8 @@ impl Picture {
     }
 
     /// Adds the cells of an instant.
-    pub(crate) fn push(&mut self, cells: &[Cell]) -> Result<(), AllocError> {
-        self.cells.extend_from_slice(cells)
+    pub(crate) fn push(&mut self, page: &mut Page, cells: &[Cell]) {
+        page.cut_if(self.cells.extend_from_slice(cells).is_err());
     }
 
     /// The cell of an element at an instant.
@@ -182,43 +176,31 @@ impl Picture {
 
     /// Adds the box of a stretch, with its number for an integer. A Boolean or absent stretch has
     /// none.
-    fn push_stretch(
-        text: &mut Vec<u8>,
-        frame: Frame,
-        row: usize,
-        stretch: Stretch,
-    ) -> Result<(), AllocError> {
+    fn push_stretch(page: &mut Page, frame: Frame, row: usize, stretch: Stretch) {
+        let colours = match stretch.cell {
+            Cell::Absent | Cell::Boolean(_) => return,
+            Cell::Nil => " fill=\"url(#nil)\"/>\n",
+            Cell::Bad => " fill=\"#d22\"/>\n",
+            Cell::Integer(_) => " fill=\"#eef\" stroke=\"#448\"/>\n",
+        };
         let x = frame.x(stretch.from);
         let y = usize::saturating_add(frame.y(row), HIGH);
         let width = frame.x(stretch.to).saturating_sub(x);
-        match stretch.cell {
-            Cell::Absent | Cell::Boolean(_) => Ok(()),
-            Cell::Nil => {
-                push_box(text, x, y, width, LOW - HIGH)?;
-                push(text, " fill=\"url(#nil)\"/>\n")
-            }
-            Cell::Bad => {
-                push_box(text, x, y, width, LOW - HIGH)?;
-                push(text, " fill=\"#d22\"/>\n")
-            }
-            Cell::Integer(z) => {
-                push_box(text, x, y, width, LOW - HIGH)?;
-                push(text, " fill=\"#eef\" stroke=\"#448\"/>\n<text")?;
-                push_attribute(text, "x", usize::saturating_add(x, width / 2))?;
-                push_attribute(text, "y", usize::saturating_add(y, 13))?;
-                push(text, " text-anchor=\"middle\">")?;
-                push_integer(text, z)?;
-                push(text, "</text>\n")
-            }
+        push_box(page, x, y, width, LOW - HIGH);
+        page.push(colours);
+        if let Cell::Integer(z) = stretch.cell {
+            page.push("<text");
+            push_attribute(page, "x", usize::saturating_add(x, width / 2));
+            push_attribute(page, "y", usize::saturating_add(y, 13));
+            page.push(" text-anchor=\"middle\">");
+            page.push_integer(z);
+            page.push("</text>\n");
         }
     }
 
     /// Adds the line of an element along its Booleans.
-    fn push_steps(&self, text: &mut Vec<u8>, frame: Frame, row: usize) -> Result<(), AllocError> {
-        push(
-            text,
-            "<path fill=\"none\" stroke=\"#161\" stroke-width=\"2\" d=\"",
-        )?;
+    fn push_steps(&self, page: &mut Page, frame: Frame, row: usize) {
+        page.push("<path fill=\"none\" stroke=\"#161\" stroke-width=\"2\" d=\"");
         let mut is_open = false;
         let mut from = 0;
         for _ in 0..frame.instants {
@@ -226,15 +208,15 @@ impl Picture {
             if let Cell::Boolean(b) = cell {
                 let y = usize::saturating_add(frame.y(row), if b { HIGH } else { LOW });
                 if is_open {
-                    push(text, "V")?;
+                    page.push("V");
                 } else {
-                    push(text, "M")?;
-                    push_number(text, frame.x(from) as u64)?;
-                    push(text, " ")?;
+                    page.push("M");
+                    page.push_number(frame.x(from) as u64);
+                    page.push(" ");
                 }
-                push_number(text, y as u64)?;
-                push(text, "H")?;
-                push_number(text, frame.x(to) as u64)?;
+                page.push_number(y as u64);
+                page.push("H");
+                page.push_number(frame.x(to) as u64);
             }
             is_open = matches!(cell, Cell::Boolean(_));
             from = to;
@@ -242,40 +224,34 @@ impl Picture {
                 break;
             }
         }
-        push(text, "\"/>\n")
+        page.push("\"/>\n");
     }
 
     /// Adds the row of an element.
-    fn push_row(
-        &self,
-        text: &mut Vec<u8>,
-        frame: Frame,
-        row: usize,
-        column: &Column,
-    ) -> Result<(), AllocError> {
-        push(text, "<text")?;
-        push_attribute(text, "x", MARGIN)?;
-        push_attribute(text, "y", usize::saturating_add(frame.y(row), 18))?;
-        push(text, ">")?;
-        push_escaped(text, column.name.as_str())?;
-        push(text, "</text>\n")?;
+    fn push_row(&self, page: &mut Page, frame: Frame, row: usize, column: &Column) {
+        page.push("<text");
+        push_attribute(page, "x", MARGIN);
+        push_attribute(page, "y", usize::saturating_add(frame.y(row), 18));
+        page.push(">");
+        push_escaped(page, column.name.as_str());
+        page.push("</text>\n");
         let mut from = 0;
         for _ in 0..frame.instants {
             let stretch = self.stretch(frame, row, from);
-            Picture::push_stretch(text, frame, row, stretch)?;
+            Picture::push_stretch(page, frame, row, stretch);
             from = stretch.to;
             if from >= frame.instants {
                 break;
             }
         }
         match column.kind {
-            Kind::Bool => self.push_steps(text, frame, row),
-            Kind::Int => Ok(()),
+            Kind::Bool => self.push_steps(page, frame, row),
+            Kind::Int => {}
         }
     }
 
     /// Adds the numbers of instants, as many as fit.
-    fn push_instants(text: &mut Vec<u8>, frame: Frame, shown: &Shown) -> Result<(), AllocError> {
+    fn push_instants(page: &mut Page, frame: Frame, shown: &Shown) {
         let longest = text_width(digits(u64::from(shown.end)));
         let each = longest.div_ceil(frame.step.max(1)).max(1);
         for place in 0..frame.instants {
@@ -284,66 +260,60 @@ impl Picture {
             if place % each != 0 && !decides {
                 continue;
             }
-            push(text, "<text")?;
+            page.push("<text");
             let half = frame.step / 2;
-            push_attribute(text, "x", usize::saturating_add(frame.x(place), half))?;
-            push_attribute(text, "y", if decides { TOP - 1 } else { TOP - 12 })?;
-            push(text, " text-anchor=\"middle\"")?;
-            push(
-                text,
-                if decides {
-                    " fill=\"#b00\">"
-                } else {
-                    " fill=\"#666\">"
-                },
-            )?;
-            push_number(text, t)?;
-            push(text, "</text>\n")?;
+            push_attribute(page, "x", usize::saturating_add(frame.x(place), half));
+            push_attribute(page, "y", if decides { TOP - 1 } else { TOP - 12 });
+            page.push(" text-anchor=\"middle\"");
+            page.push(if decides {
+                " fill=\"#b00\">"
+            } else {
+                " fill=\"#666\">"
+            });
+            page.push_number(t);
+            page.push("</text>\n");
         }
-        Ok(())
     }
 
     /// Adds the band of the instant that decides.
-    fn push_band(text: &mut Vec<u8>, frame: Frame, shown: &Shown) -> Result<(), AllocError> {
+    fn push_band(page: &mut Page, frame: Frame, shown: &Shown) {
         let Some(t) = deciding(shown.marks.verdict) else {
-            return Ok(());
+            return;
         };
         let place = t.saturating_sub(shown.first) as usize;
         let height = usize::saturating_mul(frame.rows, ROW);
-        push_box(text, frame.x(place), TOP, frame.step, height)?;
-        push(text, " fill=\"#fd8\"/>\n")
+        push_box(page, frame.x(place), TOP, frame.step, height);
+        page.push(" fill=\"#fd8\"/>\n");
     }
 
     /// Adds the whole picture.
-    pub(crate) fn write(&self, text: &mut Vec<u8>, shown: &Shown) -> Result<(), AllocError> {
+    pub(crate) fn write(&self, page: &mut Page, shown: &Shown) {
         let frame = self.frame(shown);
-        push(
-            text,
+        page.push(
             "<svg xmlns=\"http://www.w3.org/2000/svg\" font-family=\"monospace\" font-size=\"12\"",
-        )?;
+        );
         let title = usize::saturating_add(shown.trace.len(), 24);
         let width = frame.x(frame.instants).max(text_width(title));
-        push_attribute(text, "width", usize::saturating_add(width, MARGIN))?;
+        push_attribute(page, "width", usize::saturating_add(width, MARGIN));
         push_attribute(
-            text,
+            page,
             "height",
             usize::saturating_add(frame.y(frame.rows), MARGIN),
-        )?;
-        push(
-            text,
+        );
+        page.push(
             ">\n<defs><pattern id=\"nil\" width=\"6\" height=\"6\" patternUnits=\"userSpaceOnUse\">\
              <path d=\"M0 6L6 0\" stroke=\"#888\"/></pattern></defs>\n\
              <rect width=\"100%\" height=\"100%\" fill=\"#fff\"/>\n<text",
-        )?;
-        push_attribute(text, "x", MARGIN)?;
-        push(text, " y=\"18\" font-weight=\"bold\">")?;
-        push_verdict(text, shown.trace, shown.marks.verdict)?;
-        push(text, "</text>\n")?;
-        Picture::push_band(text, frame, shown)?;
-        Picture::push_instants(text, frame, shown)?;
+        );
+        push_attribute(page, "x", MARGIN);
+        page.push(" y=\"18\" font-weight=\"bold\">");
+        push_verdict(page, shown.trace, shown.marks.verdict);
+        page.push("</text>\n");
+        Picture::push_band(page, frame, shown);
+        Picture::push_instants(page, frame, shown);
         for (row, column) in shown.columns.iter().enumerate() {
-            self.push_row(text, frame, row, column)?;
+            self.push_row(page, frame, row, column);
         }
-        push(text, "</svg>\n")
+        page.push("</svg>\n");
     }
 }

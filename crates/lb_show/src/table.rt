@@ -14,10 +14,11 @@
 //! Where the instants do not fit a line, more such tables follow.
 
 use crate::marks::Shown;
+use crate::page::Page;
 use crate::verdict_line::{deciding, push_verdict};
-use crate::write::{digits, push, push_cell, push_number, push_spaces};
+use crate::write::digits;
 use lb_history::Cell;
-use std::alloc::{AllocError, Global};
+use std::alloc::Global;
 
 /// The longest line, unless a single instant takes more.
 const LINE: usize = 100;
@@ -47,10 +48,10 @@ fn cell_width(cell: Cell) -> usize {
 }
 
 /// Adds a cell; a Boolean as `1` or `.`.
-fn push_table_cell(text: &mut Vec<u8>, cell: Cell) -> Result<(), AllocError> {
+fn push_table_cell(page: &mut Page, cell: Cell) {
     match cell {
-        Cell::Boolean(false) => push(text, "."),
-        _ => push_cell(text, cell),
+        Cell::Boolean(false) => page.push("."),
+        _ => page.push_cell(cell),
     }
 }
 
@@ -64,18 +65,15 @@ fn name_width(shown: &Shown) -> usize {
 }
 
 /// Adds the line of the verdict.
-pub(crate) fn push_title(text: &mut Vec<u8>, shown: &Shown) -> Result<(), AllocError> {
-    push_verdict(text, shown.trace, shown.marks.verdict)?;
-    push(text, "\n")
+pub(crate) fn push_title(page: &mut Page, shown: &Shown) {
+    push_verdict(page, shown.trace, shown.marks.verdict);
+    page.push("\n");
 }
 
 /// Adds a name, filled up with spaces.
-fn push_name(text: &mut Vec<u8>, name: &str, width: usize) -> Result<(), AllocError> {
-    push(text, name)?;
-    push_spaces(
-        text,
-        usize::saturating_add(width, 1).saturating_sub(name.len()),
-    )
+fn push_name(page: &mut Page, name: &str, width: usize) {
+    page.push(name);
+    page.push_spaces(usize::saturating_add(width, 1).saturating_sub(name.len()));
 }
 
 impl Block {
@@ -101,59 +99,42 @@ impl Block {
     }
 
     /// Adds an instant. Instants that do not fit a line with it are written first.
-    pub(crate) fn push(
-        &mut self,
-        text: &mut Vec<u8>,
-        shown: &Shown,
-        t: u32,
-        cells: &[Cell],
-    ) -> Result<(), AllocError> {
+    pub(crate) fn push(&mut self, page: &mut Page, shown: &Shown, t: u32, cells: &[Cell]) {
         let width = usize::saturating_add(Block::column_width(shown, t, cells), 1);
         if !self.widths.is_empty() && usize::saturating_add(self.length, width) > LINE {
-            self.write(text, shown)?;
+            self.write(page, shown);
         }
         if self.widths.is_empty() {
             self.first = t;
             self.length = usize::saturating_add(name_width(shown), 1);
         }
-        self.widths.push(width)?;
+        page.cut_if(self.widths.push(width).is_err());
         self.length = usize::saturating_add(self.length, width);
-        self.cells.extend_from_slice(cells)
+        page.cut_if(self.cells.extend_from_slice(cells).is_err());
     }
 
     /// Adds the line of the numbers of the instants.
-    fn push_instants(
-        &self,
-        text: &mut Vec<u8>,
-        shown: &Shown,
-        width: usize,
-    ) -> Result<(), AllocError> {
-        push_name(text, "instant", width)?;
+    fn push_instants(&self, page: &mut Page, shown: &Shown, width: usize) {
+        push_name(page, "instant", width);
         for (place, column) in self.widths.iter().enumerate() {
             let t = u64::from(self.first).saturating_add(place as u64);
             let decides = deciding(shown.marks.verdict).map(u64::from) == Some(t);
             let taken = usize::saturating_add(digits(t), usize::from(decides));
-            push_spaces(text, column.saturating_sub(taken))?;
+            page.push_spaces(column.saturating_sub(taken));
             if decides {
-                push(text, ">")?;
+                page.push(">");
             }
-            push_number(text, t)?;
+            page.push_number(t);
         }
-        push(text, "\n")
+        page.push("\n");
     }
 
     /// Adds the line of the element at a place among those that are shown.
-    fn push_row(
-        &self,
-        text: &mut Vec<u8>,
-        shown: &Shown,
-        row: usize,
-        width: usize,
-    ) -> Result<(), AllocError> {
+    fn push_row(&self, page: &mut Page, shown: &Shown, row: usize, width: usize) {
         let Some(column) = shown.columns.get(row) else {
-            return Ok(());
+            return;
         };
-        push(text, column.name.as_str())?;
+        page.push(column.name.as_str());
         let mut place = row;
         let mut t = self.first;
         let mut blanks = usize::saturating_add(width, 1).saturating_sub(column.name.len());
@@ -163,30 +144,29 @@ impl Block {
             blanks = usize::saturating_add(blanks, *room);
             if cell != Cell::Absent {
                 let taken = usize::saturating_add(cell_width(cell), usize::from(is_marked));
-                push_spaces(text, blanks.saturating_sub(taken))?;
-                push(text, if is_marked { ">" } else { "" })?;
-                push_table_cell(text, cell)?;
+                page.push_spaces(blanks.saturating_sub(taken));
+                page.push(if is_marked { ">" } else { "" });
+                push_table_cell(page, cell);
                 blanks = 0;
             }
             place = usize::saturating_add(place, shown.columns.len());
             t = u32::saturating_add(t, 1);
         }
-        push(text, "\n")
+        page.push("\n");
     }
 
     /// Writes the instants that were added so far, if there are any.
-    pub(crate) fn write(&mut self, text: &mut Vec<u8>, shown: &Shown) -> Result<(), AllocError> {
+    pub(crate) fn write(&mut self, page: &mut Page, shown: &Shown) {
         if self.widths.is_empty() {
-            return Ok(());
+            return;
         }
-        push(text, "\n")?;
+        page.push("\n");
         let width = name_width(shown);
-        self.push_instants(text, shown, width)?;
+        self.push_instants(page, shown, width);
         for row in 0..shown.columns.len() {
-            self.push_row(text, shown, row, width)?;
+            self.push_row(page, shown, row, width);
         }
         self.widths.clear();
         self.cells.clear();
-        Ok(())
     }
 }

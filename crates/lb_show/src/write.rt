@@ -33,14 +33,6 @@ pub(crate) fn push_integer(text: &mut Vec<u8>, n: i32) -> Result<(), AllocError>
     text.extend_from_slice(Buffer::new().format(n).as_bytes())
 }
 
-/// Adds `count` spaces.
-pub(crate) fn push_spaces(text: &mut Vec<u8>, count: usize) -> Result<(), AllocError> {
-    for _ in 0..count {
-        text.push(b' ')?;
-    }
-    Ok(())
-}
-
 /// Adds a cell: a number, or 0 or 1; nothing where it is absent, `?` where it is nil, and `!` where
 /// it is the value of a fault.
 pub(crate) fn push_cell(text: &mut Vec<u8>, cell: Cell) -> Result<(), AllocError>
