@@ -23,37 +23,69 @@ fn node_of<'s>(tree: &'s Source, name: &str) -> Option<&'s Node> {
     None
 }
 
-/// Adds the names that groups of declarations have.
-fn push_names<'s>(names: &mut Vec<&'s str>, groups: &'s [Declarations]) -> Result<(), AllocError> {
+/// The number of names that groups of declarations have.
+fn count_of(groups: &[Declarations]) -> usize {
+    let mut count: usize = 0;
     for group in groups {
-        for name in &group.names {
-            names.push(name.as_str())?;
+        count = count.saturating_add(group.names.len());
+    }
+    count
+}
+
+/// The name with a number, from 0 on, of groups of declarations, if they have so many.
+fn name_at(groups: &[Declarations], number: usize) -> Option<&str> {
+    let mut left = number;
+    for group in groups {
+        match group.names.get(left) {
+            Some(name) => return Some(name.as_str()),
+            None => left = left.saturating_sub(group.names.len()),
+        }
+    }
+    None
+}
+
+/// The name of the input or output of the node under test that is wired to an input of an observer,
+/// which has a number from 0 on.
+fn wired_to(tested: &Node, number: usize) -> Option<&str> {
+    let inputs = tested.inputs.as_slice();
+    match name_at(inputs, number) {
+        Some(name) => Some(name),
+        None => name_at(
+            tested.outputs.as_slice(),
+            number.saturating_sub(count_of(inputs)),
+        ),
+    }
+}
+
+/// Puts a warning for each input of an observer that is wired to something of another name.
+fn put_warnings(page: &mut String, observer: &Node, tested: &Node) -> Result<(), AllocError> {
+    let inputs = observer.inputs.as_slice();
+    let (watching, watched) = (observer.name.as_str(), tested.name.as_str());
+    let mut told: usize = 0;
+    for number in 0..count_of(inputs) {
+        let (Some(input), Some(other)) = (name_at(inputs, number), wired_to(tested, number)) else {
+            return Ok(());
+        };
+        if input != other && told < MOST {
+            write!(page, "warning: {watching}.{input} is {watched}.{other}\n")?;
+            told = told.saturating_add(1);
         }
     }
     Ok(())
 }
 
-/// Puts a warning for each input of an observer that is wired to something of another name.
-fn put_warnings(
-    page: &mut String,
+/// The warnings for an observer and a node under test, by their names in a source.
+fn warnings_in(
     alloc: Global,
-    observer: &Node,
-    tested: &Node,
-) -> Result<(), AllocError> {
-    let mut inputs = Vec::new(alloc);
-    push_names(&mut inputs, observer.inputs.as_slice())?;
-    let mut wired = Vec::new(alloc);
-    push_names(&mut wired, tested.inputs.as_slice())?;
-    push_names(&mut wired, tested.outputs.as_slice())?;
-    let (observer, tested) = (observer.name.as_str(), tested.name.as_str());
-    let mut told: usize = 0;
-    for (input, other) in inputs.iter().zip(wired.iter()) {
-        if *input != *other && told < MOST {
-            write!(page, "warning: {observer}.{input} is {tested}.{other}\n")?;
-            told = told.saturating_add(1);
-        }
+    tree: &Source,
+    observer: &str,
+    tested: &str,
+) -> Result<Vec<u8>, AllocError> {
+    let mut page = String::new(alloc);
+    if let (Some(observer), Some(tested)) = (node_of(tree, observer), node_of(tree, tested)) {
+        put_warnings(&mut page, observer, tested)?;
     }
-    Ok(())
+    Ok(page.into_bytes())
 }
 
 /// Warnings for a person, one in a line, of each input of the observer that is wired, by place, to
@@ -69,14 +101,8 @@ pub fn wiring_warnings(
     let Some(observer) = &options.observer else {
         return Ok(Vec::new(alloc));
     };
-    let mut page = String::new(alloc);
-    let Ok(tree) = parse(alloc, source.bytes) else {
-        return Ok(Vec::new(alloc));
-    };
-    let observer = node_of(&tree, observer.as_str());
-    let tested = node_of(&tree, options.node.as_str());
-    if let (Some(observer), Some(tested)) = (observer, tested) {
-        put_warnings(&mut page, alloc, observer, tested)?;
+    match parse(alloc, source.bytes) {
+        Ok(tree) => warnings_in(alloc, &tree, observer.as_str(), options.node.as_str()),
+        Err(_) => Ok(Vec::new(alloc)),
     }
-    page.as_bytes().to_vec(alloc)
 }
