@@ -111,8 +111,6 @@ no_symbol (b ∷ []) e f = absurd (e refl)
 no_symbol (b ∷ c ∷ []) e f = absurd (f refl)
 no_symbol (b ∷ c ∷ d ∷ rest) e f = simp and-false
 
-pub ruleset symbol_found = (one_symbol, two_symbol, no_symbol)
-
 -- ---- literals
 
 pub value_of_none : value_of [] ≡ 0

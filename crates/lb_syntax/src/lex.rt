@@ -278,7 +278,6 @@ fn single(b: u8) -> Option<Mark>
 }
 
 /// The mark of a symbol.
-#[tactic(auto, using(crate::proofs::Words::symbol_found))]
 pub fn symbol_mark(text: &[u8]) -> Option<Mark>
     ensures { result ≡ spec.lookup spec.symbols text.now }
 {
