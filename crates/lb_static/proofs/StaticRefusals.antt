@@ -19,6 +19,7 @@ use Rattle.lb_static.specs.InstanceRows.{AreInstances}
 use Rattle.lb_static.specs.declared.reachable.Reached.{Reached}
 use Rattle.lb_static.specs.declared.table.Table.{Table}
 use Rattle.lb_static.specs.Instances.{Program, Root, instance_at, instances}
+use Rattle.lb_static.specs.Interfaces.{IsRootFault}
 use Rattle.lb_static.specs.Names.{is_well_founded, keeps_names}
 use Rattle.lb_static.specs.RootAnswers.{IsRootAnswer}
 use Rattle.lb_static.specs.Instantiation.{has_no_parameters, is_root, static_refusal}
@@ -110,11 +111,18 @@ calls_fault P (Value x) names h t = absurd h
 calls_fault P (Range x) names h t = absurd h
 calls_fault P (Instances x) names h t = absurd h
 
-pub parameters_fault : (P : Program) → keeps_names P ≡ true → is_well_founded P ≡ true
-    → has_no_parameters P ≡ false → static_refusal P ≡ Some E8
-parameters_fault P names calls h =
+pub parameters_fault : (P : Program) (e : StaticError) → keeps_names P ≡ true
+    → is_well_founded P ≡ true
+    → has_no_parameters P ≡ false → IsRootFault (Unit {0}) e → IsStaticFault P e
+parameters_fault P Memory names calls h told = tt
+parameters_fault P (Root_fault x) names calls h told =
     at_parameters (keeps_names P) (is_well_founded P) (has_no_parameters P) (has_data_type P)
     (instantiation_refusal P 0 (instances P)) names calls h
+parameters_fault P (Name_fault x) names calls h told = absurd told
+parameters_fault P (Recursion x) names calls h told = absurd told
+parameters_fault P (Value x) names calls h told = absurd told
+parameters_fault P (Range x) names calls h told = absurd told
+parameters_fault P (Instances x) names calls h told = absurd told
 
 pub instantiation_fault : (P : Program) (e : StaticError) → keeps_names P ≡ true
     → is_well_founded P ≡ true

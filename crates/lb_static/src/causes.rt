@@ -3,6 +3,7 @@
 //! Each place is a byte offset in the text of the source.
 
 use lb_syntax::BinaryOperator;
+use std::fmt;
 
 /// The sort of thing that an unknown name had to be.
 #[derive(Clone, Copy)]
@@ -44,7 +45,7 @@ pub struct NameFault {
 }
 
 /// A start of a program: the node under test or the observer.
-#[derive(Clone, Copy, PartialEq, Eq, Debug)]
+#[derive(Clone, Copy, PartialEq, Eq)]
 pub enum Start {
     /// The node under test.
     UnderTest,
@@ -53,7 +54,7 @@ pub enum Start {
 }
 
 /// A call on the way to an instance.
-#[derive(Debug, Drop)]
+#[derive(Drop)]
 pub struct CallStep {
     /// The name of the called node.
     pub node: String,
@@ -64,13 +65,20 @@ pub struct CallStep {
 }
 
 /// The path to an instance.
-#[derive(Debug, Drop)]
+#[derive(Drop)]
 pub struct CallPath {
     pub start: Start,
     /// The name of the node under test or of the observer.
     pub node: String,
     /// The calls, the outermost first; an empty list for the start itself.
     pub steps: Vec<CallStep>,
+}
+
+/// Shows the name of the start alone.
+impl fmt::Debug for CallPath {
+    fn fmt<W: fmt::Write>(&self, f: &mut fmt::Formatter<W>) -> Result<(), fmt::Error> {
+        f.write_str(self.node.as_str())
+    }
 }
 
 /// The rule of values that a static expression breaks.

@@ -66,15 +66,11 @@ fn check_property(
                 Ok(())
             } else {
                 let broken = observer_rule(&observer, root);
-                let fault = root_fault(alloc, Start::Observer, observer.tree, broken)?;
-                Err(StaticError::Root(fault))
+                Err(root_fault(alloc, Start::Observer, observer.tree, broken))
             }
         }
         None if root.has_property() => Ok(()),
-        None => {
-            let fault = root_fault(alloc, Start::UnderTest, root.tree, output_rule(root))?;
-            Err(StaticError::Root(fault))
-        }
+        None => Err(root_fault(alloc, Start::UnderTest, root.tree, output_rule(root))),
     }
 }
 
@@ -90,8 +86,7 @@ fn interface_signature(
         (signature_in reached.now table.now (view_interface root.now)) result }
 {
     if !root.is_plain || root.scalar_inputs() > Signature::MOST {
-        let fault = root_fault(alloc, Start::UnderTest, root.tree, input_rule(root))?;
-        return Err(StaticError::Root(fault));
+        return Err(root_fault(alloc, Start::UnderTest, root.tree, input_rule(root)));
     }
     check_property(alloc, reached, table, root)?;
     Ok(root.signature(alloc)?)
@@ -113,7 +108,7 @@ pub fn check_interface(
         → IsRootAnswer P result }
 {
     let Some(found) = valued_node(reached, table, table.root) else {
-        return Err(StaticError::Root(missing_fault(alloc, Start::UnderTest)?));
+        return Err(missing_fault(alloc, Start::UnderTest));
     };
     let root = Interface::new(alloc, Start::UnderTest, found.node, found.statics)?;
     interface_signature(alloc, reached, table, &root)

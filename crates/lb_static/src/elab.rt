@@ -31,9 +31,15 @@ pub struct Elaboration<'s> {
 ///
 /// Contracts see the elaboration, which names the program. Each `Elab` is true of its program; the
 /// contracts of the functions that read it state that.
-#[derive(Drop)]
 pub struct Elab<'s> {
     elaboration: Elaboration<'s>,
+}
+
+// Not derived, so that a caller drops it in one step.
+impl Drop for Elab<'_> {
+    fn drop(self) {
+        let Elab { elaboration: _ } = self;
+    }
 }
 
 impl<'s> Model for Elab<'s> {
@@ -90,6 +96,7 @@ impl<'s> Elab<'s> {
         ensures value { result ≡ self.entry.signature }
         ensures lawful { IsLawful self.entry }
     {
-        self.elaboration.signature
+        let Elab { elaboration } = self;
+        elaboration.signature
     }
 }

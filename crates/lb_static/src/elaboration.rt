@@ -35,7 +35,7 @@ fn instances_of_program(
 {
     check_recursion(alloc, reached)?;
     if !have_no_parameters(reached) {
-        return Err(StaticError::Root(parameters_fault(alloc, reached)?));
+        return Err(parameters_fault(alloc, reached));
     }
     let constants = Constants::new(alloc, &source.constants)?;
     instantiate(alloc, reached, &constants)

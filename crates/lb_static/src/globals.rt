@@ -38,7 +38,7 @@ pub fn declare_new(
     if names.declare(alloc, name.as_str())? {
         Ok(())
     } else {
-        Err(doubled_name(alloc, name, declaring))
+        Err(doubled_name(alloc, name, declaring, names))
     }
 }
 

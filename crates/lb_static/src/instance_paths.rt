@@ -14,50 +14,12 @@ pub struct InstancePlace<'a, 's> {
     pub origin: Origin,
 }
 
-impl InstancePlace<'_, '_> {
-    /// The path to the instance.
-    pub fn path(&self, alloc: Global) -> Result<CallPath, AllocError> {
-        call_path(alloc, self.reached, self.instances, self.origin)
-    }
-}
-
-/// A call that leads to an instance, at an index of its iterator.
-#[derive(Clone, Copy)]
-struct Call {
-    id: CallId,
-    index: u32,
-}
-
-/// Adds the calls that lead to an instance to `calls`, the innermost first, and returns the origin
-/// of its outermost caller.
-fn climb(
-    instances: &[Instance],
-    origin: Origin,
-    calls: &mut Vec<Call>,
-) -> Result<Origin, AllocError> {
-    let mut above = origin;
-    for _ in 0..instances.len() {
-        let Origin::Called {
-            caller,
-            call,
-            index,
-        } = above
-        else {
-            return Ok(above);
-        };
-        calls.push(Call { id: call, index })?;
-        match instances.get(caller.0 as usize) {
-            Some(instance) => above = instance.origin,
-            None => return Ok(above),
-        }
-    }
-    Ok(above)
-}
-
 /// The call site of a call of a node.
 fn called_site<'r>(reached: &'r Reached, node: NodeId, call: CallId) -> Option<&'r CallSite> {
-    let node = reached.nodes.get(node.0)?;
-    node.calls.get(call.0)
+    match reached.nodes.get(node.0) {
+        Some(node) => node.calls.get(call.0),
+        None => None,
+    }
 }
 
 /// The name of a reached node.
@@ -68,27 +30,55 @@ fn name_of(alloc: Global, reached: &Reached, node: NodeId) -> Result<String, All
     }
 }
 
-/// Follows `calls` from a node, the last one first.
-fn follow(
+/// Sets the start of a path to the node under test, or to the observer where `origin` is that of
+/// the observer, and returns the node.
+fn start_path(
     alloc: Global,
     reached: &Reached,
-    start: NodeId,
-    calls: &[Call],
-) -> Result<Vec<CallStep>, AllocError> {
-    let mut steps = Vec::new(alloc);
-    let mut node = start;
-    for call in calls.iter().rev() {
-        let Some(site) = called_site(reached, node, call.id) else {
-            return Ok(steps);
-        };
-        node = reached.called(site).unwrap_or(node);
-        steps.push(CallStep {
-            node: name_of(alloc, reached, node)?,
-            offset: site.offset,
-            index: site.count.and(Some(call.index)),
-        })?;
-    }
-    Ok(steps)
+    origin: Origin,
+    path: &mut CallPath,
+) -> Result<NodeId, AllocError> {
+    let (start, node) = match (origin, reached.observer) {
+        (Origin::Observer, Some(observer)) => (Start::Observer, observer),
+        _ => (Start::UnderTest, reached.root),
+    };
+    path.start = start;
+    path.node = name_of(alloc, reached, node)?;
+    Ok(node)
+}
+
+/// Makes an empty path lead to the instance with this origin, whose callers are among `instances`,
+/// and returns the node of the instance.
+fn lead(
+    alloc: Global,
+    reached: &Reached,
+    instances: &[Instance],
+    origin: Origin,
+    path: &mut CallPath,
+) -> Result<NodeId, AllocError> {
+    let Origin::Called {
+        caller,
+        call,
+        index,
+    } = origin
+    else {
+        return start_path(alloc, reached, origin, path);
+    };
+    let place = caller.0 as usize;
+    let Some(instance) = instances.get(place) else {
+        return start_path(alloc, reached, origin, path);
+    };
+    let above = lead(alloc, reached, &instances[..place], instance.origin, path)?;
+    let Some(site) = called_site(reached, above, call) else {
+        return Ok(above);
+    };
+    let node = reached.called(site).unwrap_or(above);
+    path.steps.push(CallStep {
+        node: name_of(alloc, reached, node)?,
+        offset: site.offset,
+        index: site.count.and(Some(index)),
+    })?;
+    Ok(node)
 }
 
 /// The path to the instance with this origin, whose callers are among `instances`.
@@ -98,14 +88,11 @@ pub fn call_path(
     instances: &[Instance],
     origin: Origin,
 ) -> Result<CallPath, AllocError> {
-    let mut calls = Vec::new(alloc);
-    let (start, node) = match (climb(instances, origin, &mut calls)?, reached.observer) {
-        (Origin::Observer, Some(observer)) => (Start::Observer, observer),
-        _ => (Start::UnderTest, reached.root),
+    let mut path = CallPath {
+        start: Start::UnderTest,
+        node: String::new(alloc),
+        steps: Vec::new(alloc),
     };
-    Ok(CallPath {
-        start,
-        node: name_of(alloc, reached, node)?,
-        steps: follow(alloc, reached, node, &calls)?,
-    })
+    lead(alloc, reached, instances, origin, &mut path)?;
+    Ok(path)
 }

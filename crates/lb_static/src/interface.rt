@@ -68,10 +68,10 @@ impl<'s> Interface<'s> {
     {
         let tree = node.tree;
         let Some(variables) = interface_variables(node) else {
-            return Err(StaticError::Root(type_fault(alloc, start, tree)?));
+            return Err(type_fault(alloc, start, tree));
         };
         let Some(data_types) = data_types(alloc, variables, statics)? else {
-            return Err(StaticError::Root(type_fault(alloc, start, tree)?));
+            return Err(type_fault(alloc, start, tree));
         };
         Ok(Interface {
             tree,

@@ -8,8 +8,8 @@ ghost use Rattle.lb_static.specs.NameFaults.{TellsName, TellsRule};
 
 use crate::causes::{NameFault, NameRule, Sought};
 use crate::error::StaticError;
-use crate::value_faults::constant_named;
-use lb_syntax::{Declarations, Name, Node, Source};
+use crate::scope::Scope;
+use lb_syntax::{Name, Node, Source};
 use std::alloc::{AllocError, Global};
 
 /// The scope of a declared name that has to be new there.
@@ -38,11 +38,11 @@ fn boxed_fault(
     ensures name { IfOk result (λ fault. string_bytes fault.value.name ≡ name.now) }
     ensures broken { IfOk result (λ fault. fault.value.rule ≡ rule) }
 {
+    let name = String::from_str(alloc, name)?;
     let node = match standing.node {
         Some(node) => Some(String::from_str(alloc, node.name.as_str())?),
         None => None,
     };
-    let name = String::from_str(alloc, name)?;
     Ok(Box::new(
         alloc,
         NameFault {
@@ -106,57 +106,47 @@ pub fn other_arguments(
     name_fault(alloc, name.as_str(), rule, standing)
 }
 
-/// The offset of the first of some names that is equal to `name`.
-fn first_named(names: &[Name], name: &Name) -> Option<u32> {
-    for other in names {
-        if other.as_str() == name.as_str() {
-            return Some(other.offset);
+/// The name at a place among the variables of a node, which are its inputs, outputs and locals, and
+/// the static parameters after them.
+pub fn declared_name(tree: &Node, place: usize) -> Option<&Name> {
+    let mut left = place;
+    for groups in [&tree.inputs, &tree.outputs, &tree.locals] {
+        for group in groups {
+            if let Some(name) = group.names.get(left) {
+                return Some(name);
+            }
+            left = left.saturating_sub(group.names.len());
         }
     }
-    None
+    tree.parameters.get(left)
 }
 
-/// The offset of the first of some variables with this name.
-fn first_declared(groups: &[Declarations], name: &Name) -> Option<u32> {
-    for group in groups {
-        if let Some(first) = first_named(&group.names, name) {
-            return Some(first);
-        }
+/// The name at a place among the constants of a source and the nodes after them.
+fn global_name(source: &Source, place: usize) -> Option<&Name> {
+    if let Some(constant) = source.constants.get(place) {
+        return Some(&constant.name);
     }
-    None
-}
-
-/// The offset of the first variable of a node with this name, or else of its static parameter.
-fn first_in_node(node: &Node, name: &Name) -> Option<u32> {
-    first_declared(&node.inputs, name)
-        .or(first_declared(&node.outputs, name))
-        .or(first_declared(&node.locals, name))
-        .or(first_named(&node.parameters, name))
-}
-
-/// The offset of the first constant of a source with this name, or else of its first node.
-fn first_in_source(source: &Source, name: &Name) -> Option<u32> {
-    if let Some((_, constant)) = constant_named(&source.constants, name) {
-        return Some(constant.name.offset);
+    match source
+        .nodes
+        .get(place.saturating_sub(source.constants.len()))
+    {
+        Some(node) => Some(&node.name),
+        None => None,
     }
-    for node in &source.nodes {
-        if node.name.as_str() == name.as_str() {
-            return Some(node.name.offset);
-        }
-    }
-    None
 }
 
-/// The error for a name that is declared twice. Its place is the later one of the two.
-pub fn doubled_name(alloc: Global, name: &Name, declaring: Declaring) -> StaticError
+/// The error for a name that is declared twice, where `names` are those that were declared before.
+/// Its place is the later one of the two.
+pub fn doubled_name(alloc: Global, name: &Name, declaring: Declaring, names: &Scope) -> StaticError
     ensures { TellsName name.now Declares result }
 {
+    let place = names.place(name.as_str()).unwrap_or(names.len());
     let (first, node) = match declaring {
-        Declaring::Globals(source) => (first_in_source(source, name), None),
-        Declaring::Node(node) => (first_in_node(node, name), Some(node)),
+        Declaring::Globals(source) => (global_name(source, place), None),
+        Declaring::Node(node) => (declared_name(node, place), Some(node)),
     };
     let here = name.offset;
-    let other = first.unwrap_or(here);
+    let other = first.unwrap_or(name).offset;
     let standing = Standing {
         offset: Some(here.max(other)),
         node,

@@ -3,10 +3,10 @@
 //! Nothing here runs before the refusal is certain.
 
 use crate::causes::{RangeFault, RangeRole};
-use crate::instance_paths::InstancePlace;
+use crate::instance_paths::{InstancePlace, call_path};
 use crate::instance_values::InstanceValues;
+use crate::name_faults::declared_name;
 use crate::resolved::{ResolvedNode, Role, StaticPart, StaticText};
-use crate::root_faults::name_at;
 use crate::slices::part_of;
 use crate::specialize::{LONGEST, WIDEST, size_of};
 use crate::static_value::{StaticInt, static_value};
@@ -21,25 +21,6 @@ struct Ranged {
     value: i64,
     least: i64,
     most: i64,
-}
-
-impl Ranged {
-    /// The value with its range, if it is out of it.
-    fn outside(self) -> Option<Ranged> {
-        if self.least <= self.value && self.value <= self.most {
-            None
-        } else {
-            Some(self)
-        }
-    }
-}
-
-/// The offset of a static expression.
-fn part_offset(part: &StaticPart) -> u32 {
-    match part.text {
-        StaticText::Written(expression) => expression.offset(),
-        StaticText::Named(name) => name.offset,
-    }
 }
 
 /// The least last end of a slice whose first end is `start`.
@@ -60,28 +41,21 @@ fn value_outside(part: &StaticPart, value: StaticInt, values: &InstanceValues) -
         Role::SliceEnd(start) => (RangeRole::SliceEnd, least_end(start, values), longest - 1),
         Role::Argument | Role::Value => return None,
     };
-    let ranged = Ranged {
+    let value = value.get();
+    if least <= value && value <= most {
+        return None;
+    }
+    let offset = match part.text {
+        StaticText::Written(expression) => expression.offset(),
+        StaticText::Named(name) => name.offset,
+    };
+    Some(Ranged {
         role,
-        offset: part_offset(part),
-        value: value.get(),
+        offset,
+        value,
         least,
         most,
-    };
-    ranged.outside()
-}
-
-/// The first static expression of a node whose value is out of its range.
-fn part_fault(
-    node: &ResolvedNode,
-    statics: &[StaticInt],
-    values: &InstanceValues,
-) -> Option<Ranged> {
-    for (place, part) in node.statics.iter().enumerate() {
-        if let Some(found) = value_outside(part, *statics.get(place)?, values) {
-            return Some(found);
-        }
-    }
-    None
+    })
 }
 
 /// The number of elements of an array of these sizes, or 2 ^ 63 - 1 if there are more.
@@ -104,38 +78,24 @@ fn width(name: &Name, elements: i64) -> Ranged {
     }
 }
 
-/// The name of the variable at a place among the inputs, outputs and locals of a node.
-fn variable_name<'s>(node: &ResolvedNode<'s>, place: usize) -> Option<&'s Name> {
-    if place < node.inputs {
-        return name_at(&node.tree.inputs, place);
+/// The first static expression whose value is out of its range in a node whose static expressions
+/// have these values, or else the first variable with too many elements.
+fn node_fault(node: &ResolvedNode, statics: &[StaticInt], values: &InstanceValues) -> Ranged {
+    for (place, part) in node.statics.iter().enumerate() {
+        if let Some(value) = statics.get(place) {
+            if let Some(found) = value_outside(part, *value, values) {
+                return found;
+            }
+        }
     }
-    let place = place - node.inputs;
-    if place < node.outputs {
-        return name_at(&node.tree.outputs, place);
-    }
-    name_at(&node.tree.locals, place - node.outputs)
-}
-
-/// The first variable of a node with too many elements.
-fn width_fault(node: &ResolvedNode, statics: &[StaticInt]) -> Option<Ranged> {
+    let tree = node.tree;
     for (place, variable) in node.variables.iter().enumerate() {
         let elements = all_elements(part_of(statics, variable.first_size.0, variable.sizes));
         if elements > WIDEST as i64 {
-            return Some(width(variable_name(node, place)?, elements));
+            return width(declared_name(tree, place).unwrap_or(&tree.name), elements);
         }
     }
-    None
-}
-
-/// The value that is out of its range in a node whose static expressions have these values.
-fn node_fault(node: &ResolvedNode, statics: &[StaticInt], values: &InstanceValues) -> Ranged {
-    if let Some(found) = part_fault(node, statics, values) {
-        return found;
-    }
-    match width_fault(node, statics) {
-        Some(found) => found,
-        None => width(&node.tree.name, 0),
-    }
+    width(&tree.name, 0)
 }
 
 /// The first value of a node that is out of its range, and the path to the instance at `place`.
@@ -147,7 +107,7 @@ pub fn range_fault(
     place: &InstancePlace,
 ) -> Result<Box<RangeFault>, AllocError> {
     let found = node_fault(node, statics, values);
-    let path = place.path(alloc)?;
+    let path = call_path(alloc, place.reached, place.instances, place.origin)?;
     let node = String::from_str(alloc, node.tree.name.as_str())?;
     Ok(Box::new(
         alloc,

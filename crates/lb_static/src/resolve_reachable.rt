@@ -137,7 +137,11 @@ fn visit_starts(
 fn node_ids(alloc: Global, turns: &[Option<usize>]) -> Result<Vec<Option<NodeId>>, AllocError>
     ensures { IfOk result (λ ids. ids.items ≡ ids_of turns.now) }
 {
-    turns.iter().map(|turn| turn.map(NodeId)).collect(alloc)
+    let mut ids = Vec::new(alloc);
+    for turn in turns {
+        ids.push(turn.map(NodeId))?;
+    }
+    Ok(ids)
 }
 
 /// The nodes that are reached from the node under test and from the observer, if there is one. At

@@ -4,7 +4,7 @@ ghost use Rattle.std.specs.Prelude.{◌≡◌, true, map, option_map, None, IfOk
 ghost use Rattle.lb_syntax.specs.Tree as tree;
 ghost use Rattle.lb_syntax.specs.View.{view_static, view_statics};
 ghost use Rattle.lb_static.specs.CountedNames.{counted, use_of};
-ghost use Rattle.lb_static.specs.NameFaults.{IsNameFault, TellsName, is_told};
+ghost use Rattle.lb_static.specs.NameFaults.{IsNameFault, is_told};
 ghost use Rattle.lb_static.specs.Names.{is_variable};
 ghost use Rattle.lb_static.specs.NodeNames.{IsVariableAt};
 ghost use Rattle.lb_static.specs.NodeProgress.{ResolvesTerm, ResolvesStatic, ResolvesStatics};
@@ -22,13 +22,6 @@ use crate::resolved::{CallId, CallSite, Role, StaticId, StaticPart, StaticText, 
 use lb_syntax::{Name, Static};
 use std::alloc::Global;
 
-/// The error for a name in the node that nothing of the sort `sought` has.
-fn unknown_here(alloc: Global, here: &NodeBuilder, name: &Name, sought: Sought) -> StaticError
-    ensures { TellsName name.now (use_of sought) result }
-{
-    unknown_name(alloc, name, sought, Some(here.node_scope().tree))
-}
-
 /// The place of the variable with this name. `sought` says where the name stands: on a left side or
 /// as a clock.
 pub fn variable(
@@ -45,7 +38,7 @@ pub fn variable(
 {
     match here.node_scope().place(name) {
         Some(place) => Ok(place),
-        None => Err(unknown_here(alloc, here, name, sought)),
+        None => Err(unknown_name(alloc, name, sought, Some(here.node_scope().tree))),
     }
 }
 
@@ -62,7 +55,7 @@ pub fn named<'s>(
         return Ok(Term::Variable(place));
     }
     if !here.node_scope().is_static(name) {
-        return Err(unknown_here(alloc, here, name, Sought::Value));
+        return Err(unknown_name(alloc, name, Sought::Value, Some(here.node_scope().tree)));
     }
     let part = StaticPart {
         role: Role::Value,

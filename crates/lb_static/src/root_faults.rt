@@ -2,10 +2,14 @@
 //!
 //! Nothing here runs before the refusal is certain.
 
+ghost use Rattle.lb_static.specs.Interfaces.{IsRootFault};
+
 use crate::causes::{RootFault, RootRule, Start};
 use crate::check_interface::has_no_parameters;
 use crate::data_type::DataType;
+use crate::error::StaticError;
 use crate::interface::Interface;
+use crate::name_faults::declared_name;
 use crate::reachable::Reached;
 use crate::signature::Signature;
 use lb_syntax::{Declarations, Name, Node};
@@ -18,9 +22,9 @@ pub struct Broken<'t> {
     name: Option<&'t Name>,
 }
 
-/// The fault of a start that breaks a rule. Its place is that of the parameter, input or output
-/// that breaks it, or else that of the node.
-pub fn root_fault(
+/// The fault of a start that breaks a rule, in a box. Its place is that of the parameter, input or
+/// output that breaks it, or else that of the node.
+fn boxed_fault(
     alloc: Global,
     start: Start,
     tree: &Node,
@@ -39,22 +43,37 @@ pub fn root_fault(
     )?)
 }
 
-/// The fault of a start that is not among the reached nodes, or has no values.
-pub fn missing_fault(alloc: Global, start: Start) -> Result<Box<RootFault>, AllocError> {
-    Ok(Box::new(
-        alloc,
-        RootFault {
-            rule: RootRule::SizedTypes,
-            start,
-            node: String::new(alloc),
-            name: String::new(alloc),
-            offset: 0,
-        },
-    )?)
+/// The error for a start that breaks a rule.
+pub fn root_fault(alloc: Global, start: Start, tree: &Node, broken: Broken) -> StaticError
+    ensures { IsRootFault (Unit {0}) result }
+{
+    match boxed_fault(alloc, start, tree, broken) {
+        Ok(fault) => StaticError::Root(fault),
+        Err(_) => StaticError::Memory,
+    }
 }
 
-/// The fault of the node under test, or else of the observer, that it has static parameters.
-pub fn parameters_fault(alloc: Global, reached: &Reached) -> Result<Box<RootFault>, AllocError> {
+/// The error for a start that is not among the reached nodes, or has no values.
+pub fn missing_fault(alloc: Global, start: Start) -> StaticError
+    ensures { IsRootFault (Unit {0}) result }
+{
+    let fault = RootFault {
+        rule: RootRule::SizedTypes,
+        start,
+        node: String::new(alloc),
+        name: String::new(alloc),
+        offset: 0,
+    };
+    match Box::new(alloc, fault) {
+        Ok(fault) => StaticError::Root(fault),
+        Err(_) => StaticError::Memory,
+    }
+}
+
+/// The error for the node under test, or else for the observer, that has static parameters.
+pub fn parameters_fault(alloc: Global, reached: &Reached) -> StaticError
+    ensures { IsRootFault (Unit {0}) result }
+{
     let (start, id) = match reached.observer {
         Some(observer) if has_no_parameters(reached, reached.root) => (Start::Observer, observer),
         _ => (Start::UnderTest, reached.root),
@@ -71,25 +90,15 @@ pub fn parameters_fault(alloc: Global, reached: &Reached) -> Result<Box<RootFaul
     }
 }
 
-/// The fault of a start that a size in its types is no number.
-pub fn type_fault(alloc: Global, start: Start, tree: &Node) -> Result<Box<RootFault>, AllocError> {
+/// The error for a start in whose types a size is no number.
+pub fn type_fault(alloc: Global, start: Start, tree: &Node) -> StaticError
+    ensures { IsRootFault (Unit {0}) result }
+{
     let broken = Broken {
         rule: RootRule::SizedTypes,
         name: None,
     };
     root_fault(alloc, start, tree, broken)
-}
-
-/// The name of the variable at a place among some.
-pub fn name_at(groups: &[Declarations], place: usize) -> Option<&Name> {
-    let mut left = place;
-    for group in groups {
-        if let Some(name) = group.names.get(left) {
-            return Some(name);
-        }
-        left = left.saturating_sub(group.names.len());
-    }
-    None
 }
 
 /// The first input that makes the scalar inputs too many.
@@ -98,7 +107,7 @@ fn surplus_input<'t>(interface: &Interface<'t>) -> Option<&'t Name> {
     for (place, data_type) in interface.inputs().iter().enumerate() {
         let elements = data_type.element_count();
         if elements > room {
-            return name_at(&interface.tree.inputs, place);
+            return declared_name(interface.tree, place);
         }
         room -= elements;
     }
@@ -107,15 +116,16 @@ fn surplus_input<'t>(interface: &Interface<'t>) -> Option<&'t Name> {
 
 /// The rule that the outputs break, which are not one `bool`.
 pub fn output_rule<'t>(interface: &Interface<'t>) -> Broken<'t> {
-    let (rule, place) = if interface.outputs().len() == 1 {
-        (RootRule::TruthOutput, 0)
-    } else {
-        (RootRule::OneOutput, 1)
+    let first = interface.inputs;
+    let (rule, name) = match interface.outputs().len() {
+        0 => (RootRule::OneOutput, None),
+        1 => (RootRule::TruthOutput, declared_name(interface.tree, first)),
+        _ => (
+            RootRule::OneOutput,
+            declared_name(interface.tree, first.saturating_add(1)),
+        ),
     };
-    Broken {
-        rule,
-        name: name_at(&interface.tree.outputs, place),
-    }
+    Broken { rule, name }
 }
 
 /// The rule that the first of some variables on a clock breaks, if there is one.
@@ -133,22 +143,16 @@ fn clocked(groups: &[Declarations]) -> Option<Broken> {
 
 /// The rule that the first input or output on a clock breaks, if there is one.
 fn clock_rule(tree: &Node) -> Option<Broken> {
-    match clocked(&tree.inputs) {
-        Some(broken) => Some(broken),
-        None => clocked(&tree.outputs),
-    }
+    clocked(&tree.inputs).or(clocked(&tree.outputs))
 }
 
 /// The rule that an input or output on a clock breaks, or else the inputs, of which there are too
 /// many.
 pub fn input_rule<'t>(root: &Interface<'t>) -> Broken<'t> {
-    match clock_rule(root.tree) {
-        Some(broken) => broken,
-        None => Broken {
-            rule: RootRule::FewInputs,
-            name: surplus_input(root),
-        },
-    }
+    clock_rule(root.tree).unwrap_or(Broken {
+        rule: RootRule::FewInputs,
+        name: surplus_input(root),
+    })
 }
 
 /// The rule that the first input of an observer breaks that does not fit what it observes, if any.
@@ -162,7 +166,7 @@ fn wiring_rule<'t>(observer: &Interface<'t>, observed: &[DataType]) -> Option<Br
         };
         return Some(Broken {
             rule,
-            name: name_at(&observer.tree.inputs, place),
+            name: declared_name(observer.tree, place),
         });
     }
     if inputs.len() == observed.len() {
@@ -176,11 +180,7 @@ fn wiring_rule<'t>(observer: &Interface<'t>, observed: &[DataType]) -> Option<Br
 
 /// The rule that an observer breaks that does not fit the node under test.
 pub fn observer_rule<'t>(observer: &Interface<'t>, root: &Interface) -> Broken<'t> {
-    if let Some(broken) = clock_rule(observer.tree) {
-        return broken;
-    }
-    match wiring_rule(observer, &root.data_types) {
-        Some(broken) => broken,
-        None => output_rule(observer),
-    }
+    clock_rule(observer.tree)
+        .or(wiring_rule(observer, &root.data_types))
+        .unwrap_or(output_rule(observer))
 }

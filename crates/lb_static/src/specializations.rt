@@ -22,8 +22,14 @@ struct Key {
 fn key_of(alloc: Global, node: NodeId, values: &[StaticInt]) -> Result<Key, AllocError>
     ensures { IfOk result (λ k. (k.node ≡ node) × (k.values.items ≡ values.now)) }
 {
-    let values = values.iter().copied().map(StaticInt::get).collect(alloc)?;
-    Ok(Key { node, values })
+    let mut numbers = Vec::new(alloc);
+    for value in values {
+        numbers.push(value.get())?;
+    }
+    Ok(Key {
+        node,
+        values: numbers,
+    })
 }
 
 /// Specializations in the order in which they were entered, each of them once.

@@ -67,20 +67,13 @@ fn is_between(value: StaticInt, low: u32, high: u32) -> bool
     i64::from(low) <= value.get() && value.get() <= i64::from(high)
 }
 
-/// Whether a slice between these ends does not run backwards.
-fn runs_forward(start: StaticInt, end: StaticInt) -> bool
-    ensures { result ≡ runs_forward (Some start) (Some end) }
-{
-    0 <= start.get() && start.get() <= end.get()
-}
-
 /// Whether a slice does not run backwards, from the value of `start`, if it has one, to `end`.
 fn ends_after(start: &Static, end: StaticInt, values: &InstanceValues) -> bool
     ensures { result
         ≡ runs_forward (value_under (given_by values.now) (view_static start.now)) (Some end) }
 {
     match static_value(start, values) {
-        Some(start) => runs_forward(start, end),
+        Some(start) => 0 <= start.get() && start.get() <= end.get(),
         None => false,
     }
 }

@@ -4,9 +4,9 @@
 
 use crate::causes::{ValueFault, ValueRule};
 use crate::constants::Constants;
-use crate::instance_paths::InstancePlace;
+use crate::instance_paths::{InstancePlace, call_path};
 use crate::instance_values::InstanceValues;
-use crate::resolved::{ResolvedNode, StaticPart, StaticText};
+use crate::resolved::{ResolvedNode, StaticText};
 use crate::static_value::{NoValue, Values, value_or_fault};
 use lb_syntax::{Constant, Name};
 use std::alloc::{AllocError, Global};
@@ -52,17 +52,6 @@ fn constant_fault<'s>(
     Ok(NoValue::Name(needed))
 }
 
-/// The reason why a static expression of a node has no value, if it has none.
-fn part_fault<'s>(part: &StaticPart<'s>, values: &InstanceValues) -> Option<NoValue<'s>> {
-    match part.text {
-        StaticText::Written(expression) => value_or_fault(expression, values).err(),
-        StaticText::Named(name) => match values.get(name.as_str()) {
-            Some(_) => None,
-            None => Some(NoValue::Name(name)),
-        },
-    }
-}
-
 /// What has no value in the first static expression of a node that has none.
 fn node_fault<'s>(
     alloc: Global,
@@ -70,10 +59,14 @@ fn node_fault<'s>(
     values: &InstanceValues<'s>,
 ) -> Result<NoValue<'s>, AllocError> {
     for part in &node.statics {
-        match part_fault(part, values) {
-            Some(NoValue::Name(name)) => return constant_fault(alloc, values.constants, name),
-            Some(fault) => return Ok(fault),
-            None => {}
+        let found = match part.text {
+            StaticText::Written(expression) => value_or_fault(expression, values),
+            StaticText::Named(name) => values.get(name.as_str()).ok_or(NoValue::Name(name)),
+        };
+        match found {
+            Err(NoValue::Name(name)) => return constant_fault(alloc, values.constants, name),
+            Err(fault) => return Ok(fault),
+            Ok(_) => {}
         }
     }
     Ok(NoValue::Name(&node.tree.name))
@@ -111,9 +104,10 @@ pub fn value_fault(
     values: &InstanceValues,
     place: &InstancePlace,
 ) -> Result<Box<ValueFault>, AllocError> {
-    let (rule, offset) = broken_rule(alloc, node_fault(alloc, node, values)?)?;
-    let path = place.path(alloc)?;
+    let fault = node_fault(alloc, node, values)?;
+    let path = call_path(alloc, place.reached, place.instances, place.origin)?;
     let node = String::from_str(alloc, node.tree.name.as_str())?;
+    let (rule, offset) = broken_rule(alloc, fault)?;
     Ok(Box::new(
         alloc,
         ValueFault {

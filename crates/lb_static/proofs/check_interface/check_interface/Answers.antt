@@ -13,8 +13,8 @@ use Rattle.lb_static.proofs.check_interface.check_interface.Goals as goal
 
 pub returns-in_err-root : goal.returns-in_err-root
 returns-in_err-root c P names reached table instantiated =
-    let p = err_from_is_err_and c.from_residual-in_err-root.result
-    c.from_residual-in_err-root.ensures.1 in
+    let p = err_from_is_err_and c.from_residual.result
+    c.from_residual.ensures.1 in
     let found = seen_some (λ s. (s.node.now, s.statics.now)) c.valued_node.result
     c.in-Some.found _ c.valued_node.ensures c.in-Some.is in
     rw (p.1, p.2) (root_fault P c.in_err-root.field-0.0 c.in_err-root.ensures
@@ -36,5 +36,6 @@ pub returns-in_default : goal.returns-in_default
 returns-in_default c P names reached table instantiated =
     let none = sym c.valued_node.ensures
     ∙ ap (option_map (λ (v : ValuedNode). (v.node.now, v.statics.now))) c.in_default.is in
-    ap (holds (is_root P)) (sym table.root
-    ∙ nothing_stands c.args.reached.now c.args.table.now Root c.args.table.now.root none)
+    root_fault P c.missing_fault.result c.missing_fault.ensures
+    (λ _. ap (holds (is_root P)) (sym table.root
+    ∙ nothing_stands c.args.reached.now c.args.table.now Root c.args.table.now.root none))

@@ -28,6 +28,7 @@ returns-then-not-root c =
     let root = view_interface c.args.root.now in
     let so = either_or (property_in c.args.reached.now c.args.table.now root) false in
     let elements = elements_named (map (λ d. d.name) root.node.inputs) (inputs_of root) in
+    fault_for c.root_fault.result c.root_fault.ensures (λ _.
     elim c.then-not-root.branch [
       | then-not-root-via-then-not-root w ↦ ap
           (λ b. where_true (b && (nat_le (total (inputs_of root)) 1023 && so)) elements)
@@ -38,12 +39,12 @@ returns-then-not-root c =
           (too_many (total (inputs_of root)) w.scalar_inputs.result
           w.scalar_inputs.ensures w.if-scalar_inputs-gt-MOST.true)
           ∙ few root.is_plain so)
-    ]
+    ])
 
 pub returns-in_err-check_property : goal.returns-in_err-check_property
 returns-in_err-check_property c =
-    let p = err_from_is_err_and c.from_residual-in_err-check_property.result
-    c.from_residual-in_err-check_property.ensures.1 in
+    let p = err_from_is_err_and c.from_residual.result
+    c.from_residual.ensures.1 in
     let root = view_interface c.args.root.now in
     let within = nat_le (total (inputs_of root)) 1023 in
     let elements = elements_named (map (λ d. d.name) root.node.inputs) (inputs_of root) in

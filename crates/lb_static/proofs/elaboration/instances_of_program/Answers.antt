@@ -20,8 +20,9 @@ returns-in_err-check_recursion c P names reached source =
 pub returns-then-not-have_no_parameters : goal.returns-then-not-have_no_parameters
 returns-then-not-have_no_parameters c P names reached source =
     let calls : is_well_founded P ≡ true = c.in_ok-check_recursion.ensures.answer P names reached in
-    parameters_fault P names calls
+    parameters_fault P c.parameters_fault.result names calls
     (sym (c.have_no_parameters.ensures P reached) ∙ c.if-not-have_no_parameters.true)
+    c.parameters_fault.ensures
 
 pub returns : goal.returns
 returns c P names reached source =

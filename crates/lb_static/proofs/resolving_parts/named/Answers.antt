@@ -35,7 +35,7 @@ returns-then-not-is_static c =
     let unknown : is_static_name (program_of s) s.node x ≡ false =
     same_two (λ P n. is_static_name P n x) _ _ _ _ (sym c.node_scope-2.ensures.source)
     (sym c.node_scope-2.ensures.node) ∙ sym c.is_static.ensures ∙ c.if-not-is_static.true in
-    unknown_value s x c.unknown_here.result other unknown c.unknown_here.ensures
+    unknown_value s x c.unknown_name.result other unknown c.unknown_name.ensures
 
 pub returns-in-Some : goal.returns-in-Some
 returns-in-Some c =
