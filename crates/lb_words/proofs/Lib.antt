@@ -1,3 +1,3 @@
 pub mod Ranges
-pub mod PartWords
+pub mod PathWords
 pub mod Words

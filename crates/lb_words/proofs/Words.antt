@@ -1,23 +1,31 @@
 -- The answers of the parser of words at the command line that the program knows.
-use Rattle.std.proofs.Common.{◌≡◌, ◌≢◌, ◌∙◌, ◌⊎◌, List, Result, Ok, Err, true, false}
+use Rattle.std.proofs.Common.{◌≡◌, ◌≢◌, ◌∙◌, ◌⊎◌, ℕ, List, Option, Result, Ok, Err, true, false}
 use Rattle.std.proofs.Common.{ap, subst, refl, sym}
 use Rattle.std.proofs.Common.{inl, inr}
-use Rattle.std.specs.Prelude.{[], IfErr, OnOk, codes}
+use Rattle.std.specs.Borrow.{Bor}
+use Rattle.std.specs.Prelude.{[], IfErr, OnOk, codes, option_map}
 use Rattle.std.specs.Result.{IsErrAnd}
-use Rattle.clap.specs.Words.{App, FailsBy, HasMatchesOf, IsAmong, Row, Text, fault_of, found_of}
+use Rattle.clap.specs.Words.{App, FailsBy, HasMatchesOf, IsAmong, Row, Text, fault_of, first_of}
+use Rattle.clap.specs.Words.{found_of}
 use Rattle.clap.specs.Words.{is_simple, is_simple_and_free, kind_of, matches_of, rows_of}
 use Rattle.clap.specs.declared.parser.matches.ArgMatches.{ArgMatches}
 use Rattle.clap.specs.declared.error.Error.{Error}
 use Rattle.clap.specs.declared.error.kind.ErrorKind.TheVariants.{DisplayHelp, OutOfMemory}
-use Rattle.lb_words.specs.Words.{AreRefused, AsksForHelp, IsRefused, IsRequest, IsRequestOf}
-use Rattle.lb_words.specs.Words.{IsTask, IsUnlawful}
-use Rattle.lb_words.specs.WordValues.{has_switch}
-use Rattle.lb_words.specs.Words.{IsWrongValue, command_line, faults_of, values_of}
+use Rattle.lb_refusal.specs.declared.options.Options.{Options}
+use Rattle.lb_words.specs.Terms.{IsTerms}
+use Rattle.lb_words.specs.WordValues.{HasNumber, has_switch}
+use Rattle.lb_words.specs.Words.{AreRefused, AsksForHelp, IsOptions, IsRefused, IsRequest}
+use Rattle.lb_words.specs.Words.{IsRequestOf, IsStray, IsTask, IsUnlawful, IsWrongValue, aim_of}
+use Rattle.lb_words.specs.Words.{command_line, faults_of, values_of}
+use Rattle.lb_words.specs.Words.IsWrongValue.{merged_source, no_worker, unusual}
 use Rattle.lb_words.specs.Words.IsUnlawful.{fault, wrong_value}
 use Rattle.lb_words.specs.declared.error.WordsError.{WordsError}
 use Rattle.lb_words.specs.declared.error.WordsError.TheVariants.{Memory, Unlawful}
+use Rattle.lb_words.specs.declared.request.Aim.{Aim}
 use Rattle.lb_words.specs.declared.request.Request.{Request}
 use Rattle.lb_words.specs.declared.request.Request.TheVariants.{Help, Version, Run}
+use Rattle.lb_words.specs.declared.terms.Terms.{Terms}
+use Rattle.lb_words.proofs.PathWords.{path_some}
 
 is_simple_line : is_simple command_line ≡ true
 unfolding command_line
@@ -104,6 +112,19 @@ pub misnumbered : (words : List Text) (rows : List Row) (error : WordsError)
 misnumbered words rows error same (inl memory) = inl memory
 misnumbered words rows error same (inr (unlawful, wrong)) =
     inr (unlawful, wrong_value (subst (λ (r : List Row). IsWrongValue r) same wrong))
+
+-- a live report or a merge that is not as it has to be makes a value wrong
+pub stray_is_wrong : (rows : List Row) (aim : Aim) (options : Options) (given : Terms)
+    (source : Option (Bor Text)) → aim ≡ aim_of rows → IsOptions rows options → IsTerms rows given
+    → option_map (λ s. s.now) source ≡ first_of (codes "source") rows
+    → IsStray aim options.workers given source → IsWrongValue rows
+stray_is_wrong rows aim options given source aims is terms path (inl (live, inl none)) =
+    no_worker (sym aims ∙ live)
+    (subst (λ (n : ℕ). HasNumber rows (codes "workers") (codes "1") 0 64 n) none is.workers)
+stray_is_wrong rows aim options given source aims is terms path (inl (live, inr other)) =
+    unusual given (sym aims ∙ live) terms other
+stray_is_wrong rows aim options given source aims is terms path (inr (merge, some)) =
+    merged_source (sym aims ∙ merge) (path_some source _ path some)
 
 -- `P first` gives `IfErr r P`, where `r` is `Err first`, as behind a `?`
 pub passed_on : {T : Type 0} (r : Result T WordsError) (first : WordsError)

@@ -3,6 +3,7 @@
 use Rattle.std.specs.Prelude.{◌≡◌, ◌≢◌, ℕ, List, [], codes, unwrap_or, option_map}
 use Rattle.std.specs.Prelude.{Bool, true, false, if◌then◌else◌, ◌<◌, ◌||◌, ◌⊎◌, ◌++◌, is_some}
 use Rattle.std.specs.Prelude.{Option, None, Some, IsSome, map, string_bytes, bytes_eq}
+use Rattle.std.specs.Borrow.{Bor}
 use Rattle.std.specs.List.{list_any}
 use Rattle.clap.specs.Words.{App, IsAmong, Kinds, Row, Rule, Text, fault_of, first_of, matches_of}
 use Rattle.clap.specs.Words.{all_of, new_app, with_rule}
@@ -116,6 +117,12 @@ aim_of rows =
     else (if has_switch (codes "check") rows then Check
     else (if names_trace rows then OneTrace
     else (if has_switch (codes "follow") rows then LiveReport else Report))))
+
+-- a live report has no worker or other terms than the usual ones, or a merge has a source
+abbrev pub IsStray : Aim → ℕ → Terms → Option (Bor Text) → Type 0
+IsStray aim workers given source =
+    ((aim ≡ LiveReport) × ((workers ≡ 0) ⊎ (are_usual given ≡ false)))
+    ⊎ ((aim ≡ Merge) × IsSome source)
 
 -- the reports that the values name
 abbrev pub reports_of : List Row → List Text

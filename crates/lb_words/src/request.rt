@@ -1,10 +1,9 @@
 //! The request that the words of the command line make.
 
-ghost use Rattle.std.specs.Prelude.{◌≡◌, ◌≢◌, ◌<◌, ◌≤◌, ◌==◌, ◌⊎◌, ℕ, Option, true, false};
+ghost use Rattle.std.specs.Prelude.{◌≡◌, ◌≢◌, ◌<◌, ◌≤◌, ◌==◌, ◌⊎◌, ℕ, true, false};
 ghost use Rattle.std.specs.Prelude.{IfOk, IfErr, OnOk, OnErr};
-ghost use Rattle.std.specs.Prelude.{[], IsSome, None, map, option_map, slice_index, string_bytes};
+ghost use Rattle.std.specs.Prelude.{[], None, map, option_map, slice_index, string_bytes};
 ghost use Rattle.clap.specs.Words.{IsAmong, app_of, first_of, found_of, kind_of, rows_of, rule_of};
-ghost use Rattle.lb_part.specs.Parts.{IsPartIn};
 ghost use Rattle.lb_words.specs.Terms.{are_usual};
 ghost use Rattle.lb_words.specs.ValuesWords.{names_trace};
 ghost use Rattle.lb_words.specs.WordValues as given;
@@ -46,30 +45,6 @@ pub enum Aim {
     Header,
     /// One report in place of several. Neither a source nor traces are read.
     Merge,
-}
-
-impl Aim {
-    /// Whether a report is written line by line.
-    fn is_live(&self) -> bool
-        ensures live { result ≡ true → self.now ≡ Aim.LiveReport }
-        ensures other { result ≡ false → self.now ≢ Aim.LiveReport }
-    {
-        match self {
-            Aim::LiveReport => true,
-            _ => false,
-        }
-    }
-
-    /// Whether reports are merged.
-    fn is_merge(&self) -> bool
-        ensures merge { result ≡ true → self.now ≡ Aim.Merge }
-        ensures other { result ≡ false → self.now ≢ Aim.Merge }
-    {
-        match self {
-            Aim::Merge => true,
-            _ => false,
-        }
-    }
 }
 
 /// A run: its options, its aim, its terms, and the paths of its inputs. An input without a path
@@ -306,52 +281,18 @@ fn reports_of<'a>(alloc: Global, matches: &ArgMatches<'a>) -> Result<Vec<&'a str
     }
 }
 
-/// Whether a live report is to have no worker.
-fn lacks_worker(aim: Aim, workers: u32) -> bool
-    ensures stray { result ≡ true → (aim ≡ Aim.LiveReport) × (workers ≡ 0) }
-    ensures none { result ≡ false → aim ≡ Aim.LiveReport → 0 < workers }
+/// Whether a live report has no worker or other terms than the usual ones, or a merge has a source.
+fn is_stray(aim: Aim, workers: u32, terms: &Terms<'_>, source: Option<&str>) -> bool
+    ensures stray { result ≡ true → spec.IsStray aim workers terms.now source.entry }
+    ensures worker { result ≡ false → aim ≡ Aim.LiveReport → 0 < workers }
+    ensures usual { result ≡ false → aim ≡ Aim.LiveReport → are_usual terms.now ≡ true }
+    ensures no_source { result ≡ false → aim ≡ Aim.Merge → source.entry ≡ None }
 {
-    workers == 0 && aim.is_live()
-}
-
-/// Whether a live report is to have other terms than the usual ones.
-fn is_unusual(aim: Aim, terms: &Terms<'_>) -> bool
-    ensures stray { result ≡ true → (aim ≡ Aim.LiveReport) × (are_usual terms.now ≡ false) }
-    ensures none { result ≡ false → aim ≡ Aim.LiveReport → are_usual terms.now ≡ true }
-{
-    !terms.are_usual() && aim.is_live()
-}
-
-/// The part that a text names, if it names one.
-fn part_in(text: Option<&str>) -> Result<Option<Part>, WordsError>
-    ensures ok { IfOk result (IsPartIn (option_map (λ s. s.now) text.entry)) }
-    ensures err { IfErr result (λ error. (error ≡ WordsError.Unlawful)
-        × ((part : Option Part) → IsPartIn (option_map (λ s. s.now) text.entry) part → ⊥)) }
-{
-    match text {
-        None => Ok(None),
-        Some(text) => match Part::named(text) {
-            Some(part) => Ok(Some(part)),
-            None => Err(WordsError::Unlawful),
-        },
+    match aim {
+        Aim::LiveReport => workers == 0 || !terms.are_usual(),
+        Aim::Merge => source.is_some(),
+        _ => false,
     }
-}
-
-/// The part of the traces that the words name, if they name one.
-fn part_of(matches: &ArgMatches<'_>) -> Result<Option<Part>, WordsError>
-    ensures ok { IfOk result (spec.IsPartOf (rows_of (found_of matches.now))) }
-    ensures err { IfErr result (λ error. (error ≡ WordsError.Unlawful)
-        × ((part : Option Part) → spec.IsPartOf (rows_of (found_of matches.now)) part → ⊥)) }
-{
-    part_in(text_of(matches, "part"))
-}
-
-/// Whether a part is asked for, and no file of traces is named.
-fn is_stray_part(part: Option<Part>, traces: Option<&str>) -> bool
-    ensures stray { result ≡ true → IsSome part × (traces.entry ≡ None) }
-    ensures placed { result ≡ false → IsSome part → IsSome traces.entry }
-{
-    part.is_some() && traces.is_none()
 }
 
 /// The part of the file of traces that the words name, if they name one.
@@ -361,19 +302,16 @@ fn part_of_file(matches: &ArgMatches<'_>) -> Result<Option<Part>, WordsError>
     ensures err { IfErr result (λ error. (error ≡ WordsError.Unlawful)
         × spec.IsWrongValue (rows_of (found_of matches.now))) }
 {
-    let part = part_of(matches)?;
-    if is_stray_part(part, text_of(matches, "traces")) {
+    let Some(text) = text_of(matches, "part") else {
+        return Ok(None);
+    };
+    let Some(part) = Part::named(text) else {
         return Err(WordsError::Unlawful);
+    };
+    match text_of(matches, "traces") {
+        Some(_) => Ok(Some(part)),
+        None => Err(WordsError::Unlawful),
     }
-    Ok(part)
-}
-
-/// Whether reports are merged and a source is given.
-fn is_stray_source(aim: Aim, source: Option<&str>) -> bool
-    ensures stray { result ≡ true → (aim ≡ Aim.Merge) × IsSome source.entry }
-    ensures none { result ≡ false → aim ≡ Aim.Merge → source.entry ≡ None }
-{
-    aim.is_merge() && source.is_some()
 }
 
 /// The run that the words ask for, with these options.
@@ -387,14 +325,9 @@ fn task_with<'a>(
     ensures err { IfErr result (spec.AreRefused (rows_of (found_of matches.now))) }
 {
     let aim = aim_of(matches);
-    if lacks_worker(aim, options.workers) {
-        return Err(WordsError::Unlawful);
-    }
     let terms = terms_of(matches)?;
-    if is_unusual(aim, &terms) {
-        return Err(WordsError::Unlawful);
-    }
-    if is_stray_source(aim, text_of(matches, "source")) {
+    let source = text_of(matches, "source");
+    if is_stray(aim, options.workers, &terms, source) {
         return Err(WordsError::Unlawful);
     }
     let part = part_of_file(matches)?;
@@ -404,7 +337,7 @@ fn task_with<'a>(
         options,
         aim,
         terms,
-        source: text_of(matches, "source"),
+        source,
         traces: text_of(matches, "traces"),
         values,
         reports,

@@ -1,15 +1,14 @@
-use Rattle.std.proofs.Common.{◌∙◌, inr, refl, sym}
-use Rattle.lb_words.specs.Words.IsWrongValue.{unusual}
-use Rattle.lb_words.proofs.Words.{passed_on}
+use Rattle.std.proofs.Common.{inr, refl}
+use Rattle.lb_words.proofs.Words.{passed_on, stray_is_wrong}
 use Rattle.lb_words.proofs.request.task_with.Goals as goal
 
-pub returns-then-is_unusual-clause-err : goal.returns-then-is_unusual-clause-err
-returns-then-is_unusual-clause-err c =
-    let stray = c.if-is_unusual.ensures.stray refl in
+pub returns-then-is_stray-clause-err : goal.returns-then-is_stray-clause-err
+returns-then-is_stray-clause-err c =
     inr (
       refl,
-      unusual c.in_ok-terms.terms (sym c.aim_of-aim.ensures ∙ stray.0)
-          c.in_ok-terms.ensures.ok stray.1,
+      stray_is_wrong _ _ c.args.options c.in_ok-terms.terms c.text_of-source.result
+          c.aim_of-aim.ensures c.requires c.in_ok-terms.ensures.ok c.text_of-source.ensures
+          (c.if-is_stray.ensures.stray refl),
     )
 
 pub returns-in_err-part-clause-err : goal.returns-in_err-part-clause-err
