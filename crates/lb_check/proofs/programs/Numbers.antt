@@ -278,15 +278,27 @@ module _ (P : Program) where
     numbers_walk =
         numbers_walk_from 0 (instances P) (instances_apart P) (all_at P) distinct (λ c i. refl)
 
+    abbrev IsApart : Instance → Type 0
+    IsApart c = are_distinct (map (λ d. d.name) (variables c.node)) ≡ true
+
+    abbrev IsWide : Instance → Declaration → Type 0
+    IsWide here d = length (numbers_of P here.path d.name) ≡ width P here d
+
+    widths_at :
+        (m : ℕ) (here : Instance) → found_from P 0 (instances P) here.path ≡ Some (m, here) →
+        IsApart here → Every (IsWide here) (variables here.node)
+    widths_at m here found apart =
+        Every-map (λ d. length (numbers_from P here m (variables here.node) d.name) ≡ width P here d)
+        (IsWide here) (λ d e. ap length (numbers_at m here d.name found) ∙ e) (variables here.node)
+        (node_widths P here m (variables here.node) apart)
+
     -- each variable of an instance has as many numbers as it is wide
     pub numbers_width :
         (here : Instance) → In here (instances P) →
         Every (λ d. length (numbers_of P here.path d.name) ≡ width P here d) (variables here.node)
     numbers_width here i =
         let found = found_at here i in
-        let apart = Every-at _ (instances P) here distinct i in
-        Every-map _ _ (λ d e. ap length (numbers_at found.0 here d.name found.1) ∙ e)
-        (variables here.node) (node_widths P here found.0 (variables here.node) apart)
+        widths_at found.0 here found.1 (Every-at IsApart (instances P) here distinct i)
 
     -- ## The number of an element
 

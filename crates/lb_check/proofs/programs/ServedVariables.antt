@@ -13,6 +13,7 @@ use Words.{node_occurrences, ap₂, Equation, Assertion, Site, call_site, instan
 use Words.{right_side, ungrouped, statements, Clock, On, Given, given_inputs, given_outputs}
 use Words.{WholeClock, Always, Where, is_clock_parameter, is_site, call_at, lefts_at}
 use Words.{given_parameters, given_to, serves, serving, whole_clock, site_clock, runs_on}
+use Rattle.std.proofs.lemmas.Option.{none-some}
 use Rattle.{std.proofs.Common.zip, lb_syntax.specs.Tree.Sampling, lb_static.specs.Names.is_callable}
 use Rattle.lb_static.specs.{Names.{is_known, is_static_name, is_variable}, Parts.node_names}
 use Rattle.lb_static.{specs.Parts.node_static_names, proofs.Members.filter_in}
@@ -64,6 +65,21 @@ waits_here : (x : Name) (o : Option Sampling) → holds (λ s. bytes_eq s.variab
     (s : Sampling) × (o ≡ Some s) × (s.variable ≡ x)
 waits_here x None e = absurd cc
 waits_here x (Some s) e = (s, refl, (bytes_eq-Decides s.variable x).0 e)
+
+-- an expression that is a call
+record IsCall (e : Expr) : Type 0 where
+  name : Name
+  statics : List Static
+  arguments : Exprs
+  is : e ≡ Call name statics arguments
+
+-- an expression that gives a variable for a name is a call
+giving_call :
+    (P : Program) (n : Node) (k : ℕ) (e : Expr) (x : Name) (g : Name × Name) →
+    found_in (given_to P n k e) x ≡ Some g → IsCall e
+giving_call P n k (Call f statics es) x g found =
+    record { name = f; statics = statics; arguments = es; is = refl }
+giving_call P n k _ x g found = absurd (none-some g found)
 
 module _ (P : Program) (accepted : static_refusal P ≡ None) where
   -- variable `x` of path `p` has a first number
@@ -209,18 +225,28 @@ module _ (P : Program) (accepted : static_refusal P ≡ None) where
             by false e = by_output e
 
       -- the variable that a call gives for a name is one of its caller
-      pub given_variable :
-          (k : Clock) (n : ℕ) (e : Expr) → In (at k n e) (node_occurrences P here.node) →
-          (x : Name) (g : Name × Name) → found_in (given_to P here.node n e) x ≡ Some g →
+      given_by_call :
+          (k : Clock) (n : ℕ) (f : Name) (statics : List Static) (es : Exprs) →
+          In (at k n (Call f statics es)) (node_occurrences P here.node) → (x : Name)
+          (g : Name × Name) → found_in (given_to P here.node n (Call f statics es)) x ≡ Some g →
           IsVariable here.node g.1
-      given_variable k n (Call f statics es) i x g found = by (node_named P f) refl found
+      given_by_call k n f statics es i x g found = by (node_named P f) refl found
         where
           by : (o : Option Node) → node_named P f ≡ o →
               found_in (listed (λ c. given_parameters c es (lefts_at P here.node n)) o) x ≡ Some g →
               IsVariable here.node g.1
-          by None is h = absurd cc
+          by None is h = absurd (none-some g h)
           by (Some callee) is h = given_by k n f statics es i callee is x g h
-      given_variable k n _ i x g found = absurd cc
+
+      pub given_variable :
+          (k : Clock) (n : ℕ) (e : Expr) → In (at k n e) (node_occurrences P here.node) →
+          (x : Name) (g : Name × Name) → found_in (given_to P here.node n e) x ≡ Some g →
+          IsVariable here.node g.1
+      given_variable k n e i x g found =
+          let call = giving_call P here.node n e x g found in
+          given_by_call k n call.name call.statics call.arguments
+          (subst (λ z. In (at k n z) (node_occurrences P here.node)) call.is i) x g
+          (subst (λ z. found_in (given_to P here.node n z) x ≡ Some g) call.is found)
 
       -- the call with number `n` is an occurrence with this number
       pub call_found : (n : ℕ) (o : Occurrence) → call_at P here.node n ≡ Some o →
@@ -270,7 +296,7 @@ module _ (P : Program) (accepted : static_refusal P ≡ None) where
             from : (o : Option Occurrence) → call_at P caller.node call ≡ o →
                 found_in (listed (λ o. given_to P caller.node call o.expr) o) x ≡ Some g →
                 IsVariable caller.node g.1
-            from None is h = absurd cc
+            from None is h = absurd (none-some g h)
             from (Some o) is h =
                 let at = call_found caller stands call o is in
                 given_variable caller stands o.clock o.calls_before o.expr at.0 x g
@@ -454,7 +480,7 @@ module _ (P : Program) (accepted : static_refusal P ≡ None) (checked : check_r
           (n : Option Node) → node_named P f ≡ n →
           found_in (listed (λ m. given_parameters m es (lefts_at P here.node call)) n) x ≡ Some g →
           of c.path x ≡ of here.path g.1
-      named_call o on number f statics es e None named found = absurd cc
+      named_call o on number f statics es e None named found = absurd (none-some g found)
       named_call o on number f statics es e (Some callee) named found =
           let single = only_index here o on f statics es e site count index
           (ap (slice_get (node_sites here.node)) number ∙ at_site) counts lower in
@@ -473,20 +499,20 @@ module _ (P : Program) (accepted : static_refusal P ≡ None) (checked : check_r
 
       one_call :
           (o : Occurrence) → In o (node_occurrences P here.node) → o.calls_before ≡ call →
-          (e : Expr) → o.expr ≡ e → found_in (given_to P here.node call e) x ≡ Some g →
-          of c.path x ≡ of here.path g.1
-      one_call o on number (Call f statics es) e found =
-          named_call o on number f statics es e (node_named P f) refl found
-      one_call o on number _ e found = absurd cc
+          found_in (given_to P here.node call o.expr) x ≡ Some g → of c.path x ≡ of here.path g.1
+      one_call o on number found =
+          let is = giving_call P here.node call o.expr x g found in
+          named_call o on number is.name is.statics is.arguments is.is (node_named P is.name) refl
+          (subst (λ z. found_in (given_to P here.node call z) x ≡ Some g) is.is found)
 
       numbered_call :
           (o : Option Occurrence) → call_at P here.node call ≡ o →
           found_in (listed (λ o. given_to P here.node call o.expr) o) x ≡ Some g →
           of c.path x ≡ of here.path g.1
-      numbered_call None is found = absurd cc
+      numbered_call None is found = absurd (none-some g found)
       numbered_call (Some o) is found =
           let on = call_found P accepted checked here stands call o is in
-          one_call o on.0 on.1 o.expr refl found
+          one_call o on.0 on.1 found
 
     given_same :
         (p : Path) (call index : ℕ) (c : Instance) → instance_at P (Child p call index) ≡ Some c →
