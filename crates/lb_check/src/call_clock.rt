@@ -80,7 +80,7 @@ pub fn parameters<'t>(node: &'t ResolvedNode) -> &'t [Variable]
 
 /// Whether the variable that a clock waits for, if it is one of the first `inputs`, is given a
 /// variable.
-fn is_given(inputs: usize, operands: &[Operand], clock: Option<Sampling>) -> bool
+pub fn is_given(inputs: usize, operands: &[Operand], clock: Option<Sampling>) -> bool
     ensures { result ≡ mirror.is_given inputs operands.now clock }
 {
     match clock {
@@ -233,7 +233,7 @@ pub fn is_base_clocked(node: &ResolvedNode) -> bool
 }
 
 /// Left variables as operands: each stands on its declared clock alone.
-fn left_operands(
+pub fn left_operands(
     alloc: Global,
     env: &ClockEnv,
     lefts: &[VariableId],
@@ -253,7 +253,11 @@ fn left_operands(
 
 /// The base clock of a callee whose results are those of an equation: the first that the results,
 /// or else the operands, determine.
-fn result_base(callee: &ResolvedNode, operands: &[Operand], results: &[Operand]) -> Option<Clock>
+pub fn result_base(
+    callee: &ResolvedNode,
+    operands: &[Operand],
+    results: &[Operand],
+) -> Option<Clock>
     ensures { (ctx : mirror.Context) (lefts : List named.VariableId) →
         mirror.clock_sets results.now ≡ mirror.left_clock_sets ctx lefts →
         result ≡ mirror.result_base ctx callee.now operands.now lefts }

@@ -23,42 +23,37 @@ pub fn name_of(alloc: Global, reached: &Reached, id: NodeId) -> Result<String, A
     }
 }
 
-/// The way to the first instance of a specialization.
-pub fn path_to_specialization(
-    alloc: Global,
-    reached: &Reached,
+/// Whether a specialization is the one at this place, or, without a place, one of this node.
+fn is_sought(
     table: &Table,
-    place: usize,
-) -> Result<CallPath, AllocError> {
-    for instance in &table.instances {
-        if instance.specialization.0 as usize == place {
-            return call_path(alloc, reached, &table.instances, instance.origin);
-        }
-    }
-    call_path(alloc, reached, &table.instances, Origin::UnderTest)
-}
-
-/// Whether a specialization is of this node.
-fn is_of_node(table: &Table, specialization: SpecializationId, id: NodeId) -> bool {
-    match table.specializations.get(specialization.0 as usize) {
-        Some(specialization) => specialization.node.0 == id.0,
-        None => false,
+    specialization: SpecializationId,
+    id: NodeId,
+    place: Option<usize>,
+) -> bool {
+    let own = specialization.0 as usize;
+    match (place, table.specializations.get(own)) {
+        (Some(place), _) => own == place,
+        (None, Some(specialization)) => specialization.node.0 == id.0,
+        (None, None) => false,
     }
 }
 
-/// The way to the first instance of a node.
-pub fn path_to_node(
+/// The way to the first instance of a node, or of its specialization at a place.
+pub fn path_to(
     alloc: Global,
     reached: &Reached,
     table: &Table,
     id: NodeId,
+    place: Option<usize>,
 ) -> Result<CallPath, AllocError> {
+    let mut origin = Origin::UnderTest;
     for instance in &table.instances {
-        if is_of_node(table, instance.specialization, id) {
-            return call_path(alloc, reached, &table.instances, instance.origin);
+        if is_sought(table, instance.specialization, id, place) {
+            origin = instance.origin;
+            break;
         }
     }
-    call_path(alloc, reached, &table.instances, Origin::UnderTest)
+    call_path(alloc, reached, &table.instances, origin)
 }
 
 /// A variable as it is declared in the text.

@@ -27,9 +27,15 @@ pub struct Checking<'s> {
 ///
 /// Contracts see it as a `Checking`: the program, and what is found of it. Each `Checked` keeps the
 /// rules, and what is found is true of its program; the read calls say so.
-#[derive(Drop)]
 pub struct Checked<'s> {
     checking: Checking<'s>,
+}
+
+// Not derived, so that a caller drops it in one step.
+impl Drop for Checked<'_> {
+    fn drop(self) {
+        let Checked { checking: _ } = self;
+    }
 }
 
 impl<'s> Model for Checked<'s> {
@@ -116,6 +122,7 @@ impl<'s> Checked<'s> {
         ensures value { result ≡ self.entry.elab.signature }
         ensures lawful { IsChecked self.entry }
     {
-        self.checking.elab.into_signature()
+        let Checked { checking } = self;
+        checking.elab.into_signature()
     }
 }

@@ -1,24 +1,27 @@
 //! Types, clocks and definitions of a program (E9, E10, E11).
 
-ghost use Rattle.std.specs.Prelude.{◌≡◌, IfOk, MatchResult, map};
+ghost use Rattle.std.specs.Prelude.{◌≡◌, IfOk, MatchOption, MatchResult, None, map, true};
+ghost use Rattle.std.specs.List.{list_all};
 ghost use Rattle.lb_static.specs.Elaborated.{elaborated_program, IsLawful};
-ghost use Rattle.lb_static.specs.Instances.{Program};
+ghost use Rattle.lb_static.specs.Instances.{Program, instances};
 ghost use Rattle.lb_check.specs.Acceptance.{check_refusal};
+ghost use Rattle.lb_check.specs.ClockRules.{is_clocked};
 ghost use Rattle.lb_check.specs.Correct.{IsAnswer};
 ghost use Rattle.lb_check.specs.JudgedPrograms.{IsJudged};
 ghost use Rattle.lb_check.specs.PlacedClocks.{found_in, node_terms, nothing_found, with_terms};
 ghost use Rattle.lb_check.specs.PlacedTypes.{AreFound};
+ghost use Rattle.lb_check.specs.TypeRules.{is_typed};
 
 use crate::checked::{Checked, Checking};
-use crate::clock_cause::clock_fault;
+use crate::clock_cause::clock_error;
 use crate::clock_rules::program_clocks;
-use crate::definition_cause::definition_fault;
+use crate::definition_cause::definition_error;
 use crate::definition_rules::ill_defined;
 use crate::error::CheckError;
 use crate::found_clocks::NodeClocks;
 use crate::found_types::NodeTypes;
 use crate::judged_types::judged_types;
-use crate::type_cause::type_fault;
+use crate::type_cause::type_error;
 use lb_static::{Elab, Reached, Table};
 use std::alloc::{AllocError, Global};
 
@@ -29,6 +32,49 @@ struct Found {
     clocks: Vec<NodeClocks>,
     /// The types of the terms of each specialization, or none where they are too many.
     types: Option<Vec<NodeTypes>>,
+}
+
+/// The first of the rules of definitions (E11) that a program breaks, over all instances, where it
+/// keeps those of types and clocks.
+fn definition_refusal(
+    alloc: Global,
+    reached: &Reached,
+    table: &Table,
+) -> Result<Option<CheckError>, AllocError>
+    ensures { (P : Program) → IsJudged P reached.now table.now
+        → list_all (is_typed P) (instances P) ≡ true
+        → list_all (λ here. is_clocked P here.node) (instances P) ≡ true
+        → IfOk result (λ found.
+        MatchOption found (check_refusal P ≡ None) (λ e. IsAnswer P (Err e))) }
+{
+    match ill_defined(alloc, reached, table)? {
+        Some(found) => Ok(Some(definition_error(alloc, reached, table, found)?)),
+        None => Ok(None),
+    }
+}
+
+/// The clocks of the terms of a program that keeps the rules of types; or the first of the rules of
+/// clocks (E10) and definitions (E11) that it breaks, each over all instances.
+fn judged_clocks(
+    alloc: Global,
+    reached: &Reached,
+    table: &Table,
+) -> Result<Result<Vec<NodeClocks>, CheckError>, AllocError>
+    ensures answer { (P : Program) → IsJudged P reached.now table.now
+        → list_all (is_typed P) (instances P) ≡ true → IfOk result (λ found.
+        MatchResult found (λ _. check_refusal P ≡ None) (λ e. IsAnswer P (Err e))) }
+    ensures clocks { IfOk result (λ found. IfOk found (λ clocks. map found_in clocks.items
+        ≡ map (λ n. with_terms nothing_found (node_terms reached.now n))
+        reached.now.nodes.items)) }
+{
+    let program = program_clocks(alloc, reached, table)?;
+    if let Some(found) = program.broken {
+        return Ok(Err(clock_error(alloc, reached, table, found)?));
+    }
+    match definition_refusal(alloc, reached, table)? {
+        Some(error) => Ok(Err(error)),
+        None => Ok(Ok(program.clocks)),
+    }
 }
 
 /// The clocks and types of the terms of a program; or the first of the rules of types (E9), clocks
@@ -48,24 +94,12 @@ fn judged_program(
 {
     let types = match judged_types(alloc, reached, table)? {
         Ok(types) => types,
-        Err(found) => {
-            let fault = type_fault(alloc, reached, table, found)?;
-            return Ok(Err(CheckError::Type(Box::new(alloc, fault)?)));
-        }
+        Err(found) => return Ok(Err(type_error(alloc, reached, table, found)?)),
     };
-    let program = program_clocks(alloc, reached, table)?;
-    if let Some(found) = program.broken {
-        let fault = clock_fault(alloc, reached, table, found)?;
-        return Ok(Err(CheckError::Clock(Box::new(alloc, fault)?)));
+    match judged_clocks(alloc, reached, table)? {
+        Ok(clocks) => Ok(Ok(Found { clocks, types })),
+        Err(error) => Ok(Err(error)),
     }
-    if let Some(found) = ill_defined(alloc, reached, table)? {
-        let fault = definition_fault(alloc, reached, table, found)?;
-        return Ok(Err(CheckError::Definition(Box::new(alloc, fault)?)));
-    }
-    Ok(Ok(Found {
-        clocks: program.clocks,
-        types,
-    }))
 }
 
 /// Checks an elaborated program: the first of the rules of types (E9), clocks (E10) and definitions

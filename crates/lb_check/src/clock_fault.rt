@@ -62,7 +62,6 @@ pub enum ClockRule {
 
 /// A rule of clocks that is broken (E10), and where. Places are offsets in the source text, in
 /// bytes.
-#[derive(Drop)]
 pub struct ClockFault {
     /// The name of the node in which it is.
     pub node: String,
@@ -83,6 +82,23 @@ pub struct ClockFault {
     pub wanted: Option<SourceClock>,
     /// The calls by which an instance of the node is reached.
     pub path: CallPath,
+}
+
+// Not derived, so that a caller drops it in one step.
+impl Drop for ClockFault {
+    fn drop(self) {
+        let ClockFault {
+            node: _,
+            part: _,
+            part_offset: _,
+            rule: _,
+            offset: _,
+            sign_offset: _,
+            found: _,
+            wanted: _,
+            path: _,
+        } = self;
+    }
 }
 
 impl fmt::Display for ClockFault {

@@ -1,12 +1,17 @@
-//! The reason why a term stands on no clock, where its operands stand on clocks (E10).
+//! The reason why a term stands on no clock, where its operands stand on clocks (E10), or why left
+//! variables do not stand on the clocks of the results.
 
-use crate::call_clock::{Given, base_clock, expected, inputs_of, is_base_clocked, parameters};
+use crate::call_clock::{
+    Given, base_clock, expected, inputs_of, is_base_clocked, is_given, outputs_of, parameters,
+    result_base,
+};
 use crate::clock_fault::ClockRule;
 use crate::clock_set::{ClockSet, Operand};
 use crate::own_clock::Clock;
-use crate::sites::Site;
+use crate::sites::{Site, left_offset};
 use crate::term_clock::ClockEnv;
-use lb_static::{ResolvedNode, Term, Variable};
+use lb_static::{ResolvedNode, Sampling, Term, Variable, VariableId};
+use lb_syntax::Statement;
 
 /// A rule of clocks that is broken: its place, the clock that is found, and the clock that is
 /// wanted.
@@ -19,16 +24,8 @@ pub struct ClockReason {
     pub wanted: Option<Clock>,
 }
 
-/// The clock of a clock set, if it has one alone.
-pub fn only_clock(clock_set: ClockSet) -> Option<Clock> {
-    match clock_set {
-        ClockSet::OneClock(clock) => Some(clock),
-        ClockSet::NoClock | ClockSet::AnyClock => None,
-    }
-}
-
 /// The reason for a rule that is broken at an offset, by another clock than is wanted.
-pub fn clocks_differ(
+fn clocks_differ(
     rule: ClockRule,
     offset: u32,
     found: Option<Clock>,
@@ -48,159 +45,150 @@ pub fn of_rule(rule: ClockRule, offset: u32) -> ClockReason {
     clocks_differ(rule, offset, None, None)
 }
 
-/// The reason for an operand at a place that is on another clock than is wanted.
-fn of_sign(
-    site: Site,
-    rule: ClockRule,
-    place: usize,
-    found: ClockSet,
-    wanted: Option<Clock>,
-) -> ClockReason {
-    ClockReason {
-        rule,
-        offset: site.operand_offset(place),
-        sign_offset: Some(site.sign_offset()),
-        found: only_clock(found),
-        wanted,
+/// The clock of a clock set, if it has one alone.
+fn only_clock(clock_set: ClockSet) -> Option<Clock> {
+    match clock_set {
+        ClockSet::OneClock(clock) => Some(clock),
+        ClockSet::NoClock | ClockSet::AnyClock => None,
     }
 }
 
-/// The reason for an operand, counted from 0, on another clock than those before it.
-fn of_operand(site: Site, place: usize, found: ClockSet, wanted: ClockSet) -> ClockReason {
-    let rule = ClockRule::Operand(place.saturating_add(1));
-    of_sign(site, rule, place, found, only_clock(wanted))
-}
-
-/// Whether two terms cannot stand on one clock.
-fn are_apart(one: ClockSet, other: ClockSet) -> bool {
-    matches!(one.both(other), ClockSet::NoClock)
-}
-
-/// An operand of a row that is on another clock than those before it, its place, and the clocks
-/// that those before it accept.
+/// An operand of a row on another clock than is wanted, and its place.
 #[derive(Clone, Copy)]
 struct Apart {
     place: usize,
-    found: ClockSet,
-    before: ClockSet,
+    found: Option<Clock>,
+    wanted: Option<Clock>,
 }
 
-/// The first operand of a row that is on another clock than those before it.
-fn first_apart(operands: &[Operand]) -> Option<Apart> {
-    let mut before = ClockSet::AnyClock;
+/// The first operand of a row on another clock than those before it, which are on one of `clocks`.
+fn first_apart(clocks: ClockSet, operands: &[Operand]) -> Option<Apart> {
+    let mut before = clocks;
     for (place, operand) in operands.iter().enumerate() {
-        let found = operand.clock_set;
-        if are_apart(before, found) {
+        let together = before.both(operand.clock_set);
+        if !together.stands() {
             return Some(Apart {
                 place,
-                found,
-                before,
+                found: only_clock(operand.clock_set),
+                wanted: only_clock(before),
             });
         }
-        before = before.both(found);
+        before = together;
     }
     None
 }
 
-/// The reason for a row of operands, one of which is on another clock than those before it.
-fn of_row(site: Site, operands: &[Operand]) -> ClockReason {
-    match first_apart(operands) {
-        Some(apart) => of_operand(site, apart.place, apart.found, apart.before),
-        None => of_rule(ClockRule::Operand(1), site.offset()),
-    }
+/// The clock of the parameter at a place as the caller sees it, if it sees one.
+fn expected_at(
+    base: Option<Clock>,
+    given: &Given,
+    parameters: &[Variable],
+    place: usize,
+) -> Option<Clock> {
+    expected(base, given, parameters.get(place)?.clock)
 }
 
-/// The reason for an argument of an iterator that is on another clock than those before it.
-fn of_arguments(site: Site, operands: &[Operand]) -> ClockReason {
-    match first_apart(operands) {
-        Some(apart) => clocks_differ(
-            ClockRule::Argument(apart.place.saturating_add(1)),
-            site.operand_offset(apart.place),
-            only_clock(apart.found),
-            only_clock(apart.before),
-        ),
-        None => of_rule(ClockRule::Argument(1), site.offset()),
+/// The first operand on another clock than its parameter.
+fn first_unfit(
+    base: Option<Clock>,
+    given: &Given,
+    parameters: &[Variable],
+    operands: &[Operand],
+) -> Option<Apart> {
+    for (place, operand) in operands.iter().enumerate() {
+        let wanted = expected_at(base, given, parameters, place);
+        if !operand.clock_set.accepts_clock(wanted) {
+            return Some(Apart {
+                place,
+                found: only_clock(operand.clock_set),
+                wanted,
+            });
+        }
     }
+    None
+}
+
+/// The reason for an operand, counted from 0, on another clock than is wanted.
+fn of_operand(site: Site, place: usize, found: ClockSet, wanted: ClockSet) -> ClockReason {
+    let rule = ClockRule::Operand(place.saturating_add(1));
+    clocks_differ(
+        rule,
+        site.part(place).offset(),
+        only_clock(found),
+        only_clock(wanted),
+    )
+}
+
+/// The reason for an operand, or an argument of an iterator, on another clock than those before it.
+fn of_row(site: Site, operands: &[Operand]) -> ClockReason {
+    let Some(apart) = first_apart(ClockSet::AnyClock, operands) else {
+        return of_rule(ClockRule::Operand(1), site.offset());
+    };
+    let count = apart.place.saturating_add(1);
+    let rule = match site.term {
+        Term::IterateNode(_, _, _) | Term::IterateSymbol(_, _, _, _) => ClockRule::Argument(count),
+        _ => ClockRule::Operand(count),
+    };
+    clocks_differ(
+        rule,
+        site.part(apart.place).offset(),
+        apart.found,
+        apart.wanted,
+    )
 }
 
 /// The reason for an iterated node with a clocked parameter, or with arguments on several clocks.
 fn of_iterated(site: Site, callee: Option<&ResolvedNode>, operands: &[Operand]) -> ClockReason {
     match callee {
-        Some(callee) if is_base_clocked(callee) => of_arguments(site, operands),
+        Some(callee) if is_base_clocked(callee) => of_row(site, operands),
         _ => of_rule(ClockRule::IteratedNode, site.offset()),
     }
 }
 
-/// Whether the operand at a place is a variable.
-fn is_variable(operands: &[Operand], place: usize) -> bool {
-    match operands.get(place) {
-        Some(operand) => operand.variable.is_some(),
-        None => false,
-    }
-}
-
-/// The place of the first argument that is no variable, though a parameter waits for its input.
-fn first_not_given(callee: &ResolvedNode, operands: &[Operand]) -> Option<usize> {
+/// The first clock of a parameter that waits for an input whose argument is no variable.
+fn first_not_given(callee: &ResolvedNode, operands: &[Operand]) -> Option<Sampling> {
     for parameter in parameters(callee) {
-        if let Some(clock) = parameter.clock {
-            let place = clock.variable.0;
-            if place < callee.inputs && !is_variable(operands, place) {
-                return Some(place);
-            }
+        if !is_given(callee.inputs, operands, parameter.clock) {
+            return parameter.clock;
         }
     }
     None
 }
 
-/// The reason for the first argument that stands on another clock than its parameter, if one does.
-fn wrong_argument(
-    site: Site,
-    base: Option<Clock>,
-    given: &Given,
-    inputs: &[Variable],
-    operands: &[Operand],
-) -> Option<ClockReason> {
-    for (place, operand) in operands.iter().enumerate() {
-        let wanted = expected(base, given, inputs.get(place)?.clock);
-        if !operand.clock_set.accepts_clock(wanted) {
-            let rule = ClockRule::Argument(place.saturating_add(1));
-            let offset = site.operand_offset(place);
-            let found = only_clock(operand.clock_set);
-            return Some(clocks_differ(rule, offset, found, wanted));
-        }
-    }
-    None
-}
-
-/// The reason for the arguments of a call, if one of them is wrong.
-pub fn arguments_reason(
+/// The reason for the arguments of a call, if one of them is wrong; else another reason.
+fn arguments_reason(
     site: Site,
     callee: &ResolvedNode,
     base: Option<Clock>,
     given: &Given,
     operands: &[Operand],
-) -> Option<ClockReason> {
-    match first_not_given(callee, operands) {
-        Some(place) => {
-            let rule = ClockRule::ClockArgument(place.saturating_add(1));
-            Some(of_rule(rule, site.operand_offset(place)))
+    otherwise: ClockReason,
+) -> ClockReason {
+    if let Some(clock) = first_not_given(callee, operands) {
+        let place = clock.variable.0;
+        let rule = ClockRule::ClockArgument(place.saturating_add(1));
+        return of_rule(rule, site.part(place).offset());
+    }
+    match first_unfit(base, given, inputs_of(callee), operands) {
+        Some(apart) => {
+            let rule = ClockRule::Argument(apart.place.saturating_add(1));
+            let offset = site.part(apart.place).offset();
+            clocks_differ(rule, offset, apart.found, apart.wanted)
         }
-        None => wrong_argument(site, base, given, inputs_of(callee), operands),
+        None => otherwise,
     }
 }
 
 /// The reason for a call within a term, of which an argument is wrong.
 fn of_call(site: Site, callee: Option<&ResolvedNode>, operands: &[Operand]) -> ClockReason {
-    let reason = match callee {
+    let otherwise = of_rule(ClockRule::Argument(1), site.offset());
+    match callee {
         Some(callee) => {
             let base = base_clock(callee, operands);
-            arguments_reason(site, callee, base, &Given::Nested(operands), operands)
+            let given = &Given::Nested(operands);
+            arguments_reason(site, callee, base, given, operands, otherwise)
         }
-        None => None,
-    };
-    match reason {
-        Some(reason) => reason,
-        None => of_rule(ClockRule::Argument(1), site.offset()),
+        None => otherwise,
     }
 }
 
@@ -212,26 +200,28 @@ fn of_sampled(
     operands: &[Operand],
     wanted: Option<Clock>,
 ) -> ClockReason {
-    match operands.first() {
-        Some(operand) => of_sign(site, rule, 0, operand.clock_set, wanted),
-        None => of_rule(rule, site.offset()),
-    }
+    let found = match operands.first() {
+        Some(operand) => only_clock(operand.clock_set),
+        None => None,
+    };
+    clocks_differ(rule, site.part(0).offset(), found, wanted)
 }
 
 /// The reason for a choice with branches on several clocks, or with its condition on another clock.
 fn of_choice(site: Site, operands: &[Operand]) -> ClockReason {
     let [condition, left, right] = operands else {
-        return of_rule(ClockRule::Operand(1), site.offset());
+        return of_row(site, operands);
     };
     let branches = left.clock_set.both(right.clock_set);
-    match branches {
-        ClockSet::NoClock => of_operand(site, 2, right.clock_set, left.clock_set),
-        _ => of_operand(site, 0, condition.clock_set, branches),
+    if branches.stands() {
+        of_operand(site, 0, condition.clock_set, branches)
+    } else {
+        of_operand(site, 2, right.clock_set, left.clock_set)
     }
 }
 
-/// The reason why a term stands on no clock, where each of its operands stands on one.
-pub fn clock_reason(env: &ClockEnv, site: Site, operands: &[Operand]) -> ClockReason {
+/// The rule that a term breaks whose operands stand on clocks, and the two clocks.
+fn broken_rule(env: &ClockEnv, site: Site, operands: &[Operand]) -> ClockReason {
     match site.term {
         Term::When(_, x, _) => {
             of_sampled(site, ClockRule::When, operands, Some(env.variable(*x)))
@@ -240,7 +230,57 @@ pub fn clock_reason(env: &ClockEnv, site: Site, operands: &[Operand]) -> ClockRe
         Term::If(_, _, _) => of_choice(site, operands),
         Term::Call(call, _) => of_call(site, env.callee(*call), operands),
         Term::IterateNode(_, call, _) => of_iterated(site, env.callee(*call), operands),
-        Term::IterateSymbol(_, _, _, _) => of_arguments(site, operands),
         _ => of_row(site, operands),
     }
+}
+
+/// The reason why a term stands on no clock, where each of its operands stands on one. An operator
+/// is reported with its sign.
+pub fn clock_reason(env: &ClockEnv, site: Site, operands: &[Operand]) -> ClockReason {
+    let mut reason = broken_rule(env, site, operands);
+    if let ClockRule::Operand(_) | ClockRule::When | ClockRule::Current = reason.rule {
+        reason.sign_offset = Some(site.sign_offset());
+    }
+    reason
+}
+
+/// The reason for a left variable on another clock than its result.
+fn left_reason(apart: Option<Apart>, statement: &Statement) -> ClockReason {
+    match apart {
+        Some(apart) => {
+            let rule = ClockRule::Left(apart.place.saturating_add(1));
+            let offset = left_offset(statement, apart.place);
+            clocks_differ(rule, offset, apart.wanted, apart.found)
+        }
+        None => of_rule(ClockRule::Left(1), statement.offset()),
+    }
+}
+
+/// The reason for left variables, here as operands, on other clocks than a right side that is no
+/// call.
+pub fn lefts_reason(right: ClockSet, results: &[Operand], statement: &Statement) -> ClockReason {
+    left_reason(first_apart(right, results), statement)
+}
+
+/// The reason for a call that is a whole right side, with an argument or a result on a wrong clock.
+/// The left variables also stand in `results`, as operands.
+pub fn called_reason(
+    site: Site,
+    callee: &ResolvedNode,
+    operands: &[Operand],
+    lefts: &[VariableId],
+    results: &[Operand],
+    statement: &Statement,
+) -> ClockReason {
+    let base = result_base(callee, operands, results);
+    let given = &Given::Whole(callee.inputs, operands, lefts);
+    let apart = first_unfit(base, given, outputs_of(callee), results);
+    arguments_reason(
+        site,
+        callee,
+        base,
+        given,
+        operands,
+        left_reason(apart, statement),
+    )
 }

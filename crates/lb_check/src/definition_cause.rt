@@ -1,11 +1,18 @@
 //! The reason why a part of a node breaks the rules of definitions (E11).
 
-ghost use Rattle.std.specs.Prelude.{◌≡◌, IfOk, string_bytes};
-ghost use Rattle.lb_syntax.specs.Lists.{listed};
-ghost use Rattle.lb_static.specs.ReachedNodes.{tree_at};
+ghost use Rattle.std.specs.Prelude.{◌≡◌, IfOk, OnOk};
+ghost use Rattle.lb_syntax.specs.Refusals.{E11};
+ghost use Rattle.lb_static.specs.Instances.{Program};
+ghost use Rattle.lb_check.specs.Acceptance.{check_refusal};
+ghost use Rattle.lb_check.specs.BrokenParts.{is_part_defined};
+ghost use Rattle.lb_check.specs.BrokenRules.{IsBroken};
+ghost use Rattle.lb_check.specs.Correct.{IsAnswer};
+ghost use Rattle.lb_check.specs.DefinitionRules.{is_defined};
 
-use crate::cause::{declared_variable, name_of, part_offset, path_to_node, variable_offset};
+use crate::cause::{declared_variable, name_of, part_offset, path_to, variable_offset};
 use crate::definition_fault::{DefinitionFault, DefinitionRule};
+use crate::definition_rules::calls_function;
+use crate::error::CheckError;
 use crate::part::{IllFormed, Part};
 use crate::sites::{Site, left_offset, right_side};
 use lb_static::{CallId, Reached, ResolvedNode, ResolvedStatement, Table, Term, VariableId};
@@ -20,24 +27,12 @@ struct DefinitionReason<'t> {
     offset: u32,
 }
 
-/// The callee of a call, if it is no function.
-fn called_node<'a, 's>(
-    reached: &'a Reached<'s>,
-    node: &ResolvedNode<'s>,
-    call: CallId,
-) -> Option<&'a ResolvedNode<'s>> {
-    match reached.callee(node, call) {
-        Some(callee) if !callee.tree.is_function => Some(callee),
-        _ => None,
-    }
-}
-
 /// Whether a term itself has memory, or calls a node.
 fn has_own_memory(reached: &Reached, node: &ResolvedNode, term: &Term) -> bool {
     match term {
         Term::Arrow(_, _) | Term::Fby(_, _) | Term::Pre(_) | Term::Current(_) => true,
         Term::Call(call, _) | Term::IterateNode(_, call, _) => {
-            called_node(reached, node, *call).is_some()
+            !calls_function(reached, node, *call)
         }
         _ => false,
     }
@@ -144,15 +139,15 @@ fn variable_reason<'a, 's>(
 }
 
 /// The reason why a part breaks the rules of definitions; `is_defined` is of its variable.
-fn found_reason<'a, 's>(
+fn part_reason<'a, 's>(
     reached: &'a Reached<'s>,
-    found: IllFormed,
+    node: &'a ResolvedNode<'s>,
+    part: Part,
     is_defined: bool,
 ) -> DefinitionReason<'a> {
-    match (reached.nodes.get(found.node.0), found.part) {
-        (Some(node), Part::Variable(variable)) => variable_reason(node, variable, is_defined),
-        (Some(node), Part::Statement(place)) => statement_reason(reached, node, place),
-        (None, _) => NO_REASON,
+    match part {
+        Part::Variable(variable) => variable_reason(node, variable, is_defined),
+        Part::Statement(place) => statement_reason(reached, node, place),
     }
 }
 
@@ -174,13 +169,12 @@ fn note_lefts(
     Ok(())
 }
 
-/// The offsets at which a variable of a node stands on left sides.
-fn offsets_of(
-    alloc: Global,
-    node: &ResolvedNode,
-    variable: VariableId,
-) -> Result<Vec<u32>, AllocError> {
+/// The offsets at which a part that is a variable stands on left sides.
+fn definitions_of(alloc: Global, node: &ResolvedNode, part: Part) -> Result<Vec<u32>, AllocError> {
     let mut definitions = Vec::new(alloc);
+    let Part::Variable(variable) = part else {
+        return Ok(definitions);
+    };
     for (place, statement) in node.tree.body.iter().enumerate() {
         if let Some(resolved) = node.body.get(place) {
             note_lefts(&mut definitions, variable, resolved, statement)?;
@@ -189,42 +183,49 @@ fn offsets_of(
     Ok(definitions)
 }
 
-/// The offsets at which a part that is a variable stands on left sides.
-fn definitions_of(
+/// Adds the reason to a fault of definitions.
+fn explain(
     alloc: Global,
     reached: &Reached,
     found: IllFormed,
-) -> Result<Vec<u32>, AllocError> {
-    match (reached.nodes.get(found.node.0), found.part) {
-        (Some(node), Part::Variable(variable)) => offsets_of(alloc, node, variable),
-        _ => Ok(Vec::new(alloc)),
-    }
+    fault: &mut DefinitionFault,
+) -> Result<(), AllocError>
+    ensures node { OnOk result (fault.new.node ≡ fault.old.node) }
+    ensures part { OnOk result (fault.new.part ≡ fault.old.part) }
+{
+    let Some(node) = reached.nodes.get(found.node.0) else {
+        return Ok(());
+    };
+    fault.definitions = definitions_of(alloc, node, found.part)?;
+    let reason = part_reason(reached, node, found.part, !fault.definitions.is_empty());
+    fault.rule = reason.rule;
+    fault.name = String::from_str(alloc, reason.name)?;
+    fault.offset = reason.offset;
+    Ok(())
 }
 
-/// The fault of definitions of this part.
-pub fn definition_fault(
+/// The error that this part breaks the rules of definitions.
+pub fn definition_error(
     alloc: Global,
     reached: &Reached,
     table: &Table,
     found: IllFormed,
-) -> Result<DefinitionFault, AllocError>
-    ensures node { IfOk result (λ f.
-        string_bytes f.node ≡ listed (λ n. n.name) (tree_at reached.now found.node)) }
-    ensures part { IfOk result (λ f. f.part ≡ found.part) }
+) -> Result<CheckError, AllocError>
+    ensures { (P : Program) → check_refusal P ≡ Some E11
+        → IsBroken (λ here. is_defined P here.node) (λ here. is_part_defined P here.node) P
+        reached.now found.node found.part
+        → IfOk result (λ e. IsAnswer P (Err e)) }
 {
-    let definitions = definitions_of(alloc, reached, found)?;
-    let reason = found_reason(reached, found, !definitions.is_empty());
-    let name = String::from_str(alloc, reason.name)?;
-    let path = path_to_node(alloc, reached, table, found.node)?;
-    let node = name_of(alloc, reached, found.node)?;
-    Ok(DefinitionFault {
-        node,
+    let mut fault = DefinitionFault {
+        node: name_of(alloc, reached, found.node)?,
         part: found.part,
         part_offset: part_offset(reached, found.node, found.part),
-        rule: reason.rule,
-        name,
-        offset: reason.offset,
-        definitions,
-        path,
-    })
+        rule: DefinitionRule::Undefined,
+        name: String::new(alloc),
+        offset: 0,
+        definitions: Vec::new(alloc),
+        path: path_to(alloc, reached, table, found.node, None)?,
+    };
+    explain(alloc, reached, found, &mut fault)?;
+    Ok(CheckError::Definition(Box::new(alloc, fault)?))
 }

@@ -21,7 +21,6 @@ pub enum DefinitionRule {
 
 /// A rule of definitions or of functions that is broken (E11), and where. Places are offsets in the
 /// source text, in bytes.
-#[derive(Drop)]
 pub struct DefinitionFault {
     /// The name of the node or function in which it is.
     pub node: String,
@@ -40,6 +39,22 @@ pub struct DefinitionFault {
     pub definitions: Vec<u32>,
     /// The calls by which an instance of the node is reached.
     pub path: CallPath,
+}
+
+// Not derived, so that a caller drops it in one step.
+impl Drop for DefinitionFault {
+    fn drop(self) {
+        let DefinitionFault {
+            node: _,
+            part: _,
+            part_offset: _,
+            rule: _,
+            name: _,
+            offset: _,
+            definitions: _,
+            path: _,
+        } = self;
+    }
 }
 
 impl fmt::Display for DefinitionFault {

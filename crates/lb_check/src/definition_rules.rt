@@ -84,7 +84,7 @@ fn first_ill_defined_variable(
 }
 
 /// Whether the callee of a call is a function.
-fn calls_function(reached: &Reached, node: &ResolvedNode, call: CallId) -> bool
+pub fn calls_function(reached: &Reached, node: &ResolvedNode, call: CallId) -> bool
     ensures { result ≡ mirror.calls_function reached.now node.now call }
 {
     match reached.callee(node, call) {

@@ -10,7 +10,7 @@ use std::fmt;
 ///
 /// Names, static values and instances were judged before, by `lb_static`. What comes later, the
 /// size of the program and its cycles, is judged by `lb_expand` and `lb_flat`.
-#[derive(Drop, thiserror::Error)]
+#[derive(thiserror::Error)]
 pub enum CheckError {
     /// Memory ran out (E0).
     #[error("memory ran out")]
@@ -24,6 +24,18 @@ pub enum CheckError {
     /// A variable has not exactly one definition, or a function has memory (E11).
     #[error("{0}")]
     Definition(Box<DefinitionFault>),
+}
+
+// Not derived, so that a caller drops it in one step.
+impl Drop for CheckError {
+    fn drop(self) {
+        match self {
+            CheckError::Memory => {}
+            CheckError::Type(_) => {}
+            CheckError::Clock(_) => {}
+            CheckError::Definition(_) => {}
+        }
+    }
 }
 
 impl fmt::Debug for CheckError {

@@ -231,7 +231,7 @@ impl TypeRow<'_> {
     }
 
     /// Whether the type at a place is the given one.
-    fn is_at(&self, place: usize, given: &DataType) -> bool
+    pub fn is_at(&self, place: usize, given: &DataType) -> bool
         ensures { result ≡ mirror.are_one (mirror.type_at (mirror.row_in self.now) place)
             (Some (view_type given.now)) }
     {

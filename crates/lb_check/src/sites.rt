@@ -13,14 +13,6 @@ pub struct Site<'t> {
     pub expr: &'t Expr,
 }
 
-/// The expression at a place, or `other` where there is none.
-fn item_or<'t>(exprs: &'t [Expr], place: usize, other: &'t Expr) -> &'t Expr {
-    match exprs.get(place) {
-        Some(expr) => expr,
-        None => other,
-    }
-}
-
 /// The operand of a term at a place, if it has one there.
 fn term_operand<'t>(term: &'t Term, place: usize) -> Option<&'t Term>
     ensures { IfSome result (λ e. size-Term e.now < size-Term term.now) }
@@ -69,10 +61,11 @@ pub fn operand_at<'t>(expr: &'t Expr, place: usize) -> &'t Expr {
         Expr::Binary(_, a, b, _) => two(a, b, place),
         Expr::Arrow(a, b, _) | Expr::Fby(a, b, _) | Expr::Join(a, b, _) => two(a, b, place),
         Expr::If(c, a, b, _) => { if place == 0 { c } else { two(a, b, place - 1) } }
-        Expr::Array(all, _) | Expr::AtMostOne(all, _) | Expr::Nor(all, _) => {
-            item_or(all, place, expr)
-        }
-        Expr::Call(_, _, all) | Expr::Iterate(_, _, _, all, _) => item_or(all, place, expr),
+        Expr::Array(all, _)
+        | Expr::AtMostOne(all, _)
+        | Expr::Nor(all, _)
+        | Expr::Call(_, _, all)
+        | Expr::Iterate(_, _, _, all, _) => all.get(place).unwrap_or(expr),
         Expr::Literal(_, _) | Expr::Truth(_, _) | Expr::Variable(_) => expr,
     }
 }
@@ -93,6 +86,11 @@ impl<'t> Site<'t> {
         })
     }
 
+    /// Its operand at a place, or the term itself where it has none there.
+    pub fn part(self, place: usize) -> Site<'t> {
+        self.operand(place).unwrap_or(self)
+    }
+
     /// The offset at which the expression begins.
     pub fn offset(self) -> u32 {
         self.expr.offset()
@@ -100,15 +98,7 @@ impl<'t> Site<'t> {
 
     /// The offset of the sign of its operator: between its operands, or before them.
     pub fn sign_offset(self) -> u32 {
-        match self.expr.sign_offset() {
-            Some(at) => at,
-            None => self.expr.offset(),
-        }
-    }
-
-    /// The offset at which its operand at a place begins.
-    pub fn operand_offset(self, place: usize) -> u32 {
-        operand_at(self.expr, place).offset()
+        self.expr.sign_offset().unwrap_or(self.expr.offset())
     }
 
     /// The offset of the variable of `when`, of the index, or of the first end of a slice.

@@ -3,94 +3,60 @@
 //! The reported part of a term is the innermost one that has no type, though each operand of it has
 //! one.
 
-ghost use Rattle.std.specs.Prelude.{◌≡◌, IfOk, string_bytes};
-ghost use Rattle.lb_syntax.specs.Lists.{listed};
-ghost use Rattle.lb_static.specs.ReachedNodes.{tree_at};
+ghost use Rattle.std.specs.Prelude.{◌≡◌, IfOk, OnOk};
+ghost use Rattle.lb_syntax.specs.Refusals.{E9};
+ghost use Rattle.lb_static.specs.Instances.{Program};
+ghost use Rattle.lb_check.specs.Acceptance.{check_refusal};
+ghost use Rattle.lb_check.specs.BrokenParts.{is_part_typed};
+ghost use Rattle.lb_check.specs.BrokenRules.{IsBroken};
+ghost use Rattle.lb_check.specs.Correct.{IsAnswer};
+ghost use Rattle.lb_check.specs.TypeRules.{is_typed};
 
-use crate::cause::{clock_offset, name_of, part_offset, path_to_specialization};
+use crate::cause::{clock_offset, name_of, part_offset, path_to};
+use crate::error::CheckError;
 use crate::judged_types::IllTyped;
 use crate::operand_types::{common_type, when_truth};
 use crate::part::Part;
-use crate::part_types::PartTypes;
 use crate::signature::{array_type, only_given, signature_of};
 use crate::sites::{Site, left_offset, right_side, ungrouped};
 use crate::type_env::TypeEnv;
 use crate::type_fault::{SourceType, TypeFault, TypeRule};
-use crate::type_reason::{TypeReason, Typed, of_rule, type_reason};
+use crate::type_reason::{TypeReason, Typed, of_rule, type_reason, types_differ};
 use crate::types::{
-    SideTypes, fits_too, given_where, has_arity, like_later, one_type, results, side_types,
-    two_types, type_of,
+    fits_too, given_where, has_arity, like_later, one_type, results, two_types, type_of,
 };
-use lb_static::{DataType, Reached, ResolvedStatement, Table, Term, VariableId};
-use lb_syntax::{Expr, Kind, Statement};
+use lb_static::{DataType, Reached, ResolvedStatement, Table, Term, Variable, VariableId};
+use lb_syntax::{Kind, Statement};
 use std::alloc::{AllocError, Global};
 
-/// The typing of a term, found from that of its operands.
-#[derive(Drop)]
-enum Typing<'t> {
-    /// The term has this type.
-    Typed(DataType),
-    /// This part has no type, though each of its operands has one.
-    Untyped(Site<'t>),
-}
-
-/// The typing of a term of which each operand has a type.
-fn own_typing<'t>(data_type: Option<DataType>, site: Site<'t>) -> Typing<'t> {
-    match data_type {
-        Some(data_type) => Typing::Typed(data_type),
-        None => Typing::Untyped(site),
-    }
-}
-
-/// The typing of a term with this number of operands in a row, a list apart.
-#[cycle(typings)]
-fn typed_row<'t>(
+/// The type of a term with a row of operands of these types, a list apart.
+fn row_type(
     alloc: Global,
     env: &TypeEnv,
-    site: Site<'t>,
-    count: usize,
-) -> Result<Typing<'t>, AllocError> {
-    let signature = signature_of(alloc, env, site.term, count)?;
+    term: &Term,
+    operands: Vec<DataType>,
+) -> Result<Option<DataType>, AllocError> {
+    let count = operands.len();
+    let signature = signature_of(alloc, env, term, count)?;
     let mut fits = has_arity(&signature, count);
-    for place in 0..count {
-        let Some(operand) = site.operand(place) else {
-            break;
-        };
-        match typed_term(alloc, env, operand)? {
-            Typing::Typed(data_type) => {
-                fits = fits_too(fits, &signature.takes, place, &Some(data_type));
-            }
-            untyped => return Ok(untyped),
-        }
+    for (place, own) in operands.iter().enumerate() {
+        fits = fits && signature.takes.is_at(place, own);
     }
-    let own = only_given(alloc, &given_where(fits, signature.gives))?;
-    Ok(own_typing(own, site))
+    only_given(alloc, &given_where(fits, signature.gives))
 }
 
-/// The typing of a list of this number of elements.
-#[cycle(typings)]
-fn typed_list<'t>(
-    alloc: Global,
-    env: &TypeEnv,
-    site: Site<'t>,
-    count: usize,
-) -> Result<Typing<'t>, AllocError> {
+/// The type of a list of elements of these types.
+fn list_type(elements: Vec<DataType>) -> Result<Option<DataType>, AllocError> {
+    let count = elements.len();
     let mut element = None;
-    for place in 0..count {
-        let Some(operand) = site.operand(place) else {
-            break;
-        };
-        match typed_term(alloc, env, operand)? {
-            Typing::Typed(data_type) => element = like_later(place, Some(data_type), element),
-            untyped => return Ok(untyped),
-        }
+    for (place, own) in elements.into_iter().enumerate() {
+        element = like_later(place, Some(own), element);
     }
-    let own = array_type(count as u64, element)?;
-    Ok(own_typing(own, site))
+    array_type(count as u64, element)
 }
 
-/// The type of a term with three operands or fewer, from the types of the operands.
-fn type_from(
+/// The type of a term with three operands or fewer, of these types.
+fn few_type(
     alloc: Global,
     env: &TypeEnv,
     term: &Term,
@@ -107,70 +73,63 @@ fn type_from(
     }
 }
 
-/// The typing of a term with three operands or fewer.
+/// The type of a term with operands of these types, if it has one.
+fn type_from(
+    alloc: Global,
+    env: &TypeEnv,
+    term: &Term,
+    operands: Vec<DataType>,
+) -> Result<Option<DataType>, AllocError> {
+    match term {
+        Term::Array(_) => list_type(operands),
+        Term::AtMostOne(_)
+        | Term::Nor(_)
+        | Term::Call(_, _)
+        | Term::IterateNode(_, _, _)
+        | Term::IterateSymbol(_, _, _, _) => row_type(alloc, env, term, operands),
+        _ => few_type(alloc, env, term, operands),
+    }
+}
+
+/// The types of the operands of a term, if each has one. Where one has none, `untyped` is the first
+/// part of it that has none, though each operand of that part has one.
 #[cycle(typings)]
-fn typed_few<'t>(alloc: Global, env: &TypeEnv, site: Site<'t>) -> Result<Typing<'t>, AllocError> {
+fn typed_operands<'t>(
+    alloc: Global,
+    env: &TypeEnv,
+    site: Site<'t>,
+    untyped: &mut Site<'t>,
+) -> Result<Option<Vec<DataType>>, AllocError> {
     let mut types = Vec::new(alloc);
-    for place in 0..3 {
+    for place in 0..usize::MAX {
         let Some(operand) = site.operand(place) else {
             break;
         };
-        match typed_term(alloc, env, operand)? {
-            Typing::Typed(data_type) => types.push(data_type)?,
-            untyped => return Ok(untyped),
+        match typed_term(alloc, env, operand, untyped)? {
+            Some(data_type) => types.push(data_type)?,
+            None => return Ok(None),
         }
     }
-    let own = type_from(alloc, env, site.term, types)?;
-    Ok(own_typing(own, site))
+    Ok(Some(types))
 }
 
-/// The typing of a term: each part is looked at once.
+/// The type of a term, if it has one: each part is looked at once. Where it has none, `untyped` is
+/// the first part that has none, though each operand of that part has one.
 #[cycle(typings)]
-fn typed_term<'t>(alloc: Global, env: &TypeEnv, site: Site<'t>) -> Result<Typing<'t>, AllocError> {
-    match site.term {
-        Term::Array(terms) => typed_list(alloc, env, site, terms.len()),
-        Term::AtMostOne(terms)
-        | Term::Nor(terms)
-        | Term::Call(_, terms)
-        | Term::IterateNode(_, _, terms)
-        | Term::IterateSymbol(_, _, _, terms) => typed_row(alloc, env, site, terms.len()),
-        _ => typed_few(alloc, env, site),
+fn typed_term<'t>(
+    alloc: Global,
+    env: &TypeEnv,
+    site: Site<'t>,
+    untyped: &mut Site<'t>,
+) -> Result<Option<DataType>, AllocError> {
+    let Some(types) = typed_operands(alloc, env, site, untyped)? else {
+        return Ok(None);
+    };
+    let own = type_from(alloc, env, site.term, types)?;
+    if own.is_none() {
+        *untyped = site;
     }
-}
-
-/// The reason for an equation with more or fewer left variables than its right side has results.
-fn count_reason<'t>(
-    right: &'t Term,
-    found: usize,
-    wanted: usize,
-    statement: &Statement,
-) -> TypeReason<'t> {
-    TypeReason {
-        rule: TypeRule::LeftCount { found, wanted },
-        offset: left_offset(statement, 0),
-        sign_offset: None,
-        found: Typed::Results(right),
-        wanted: Typed::Nothing,
-    }
-}
-
-/// The reason for a left variable, counted from 0, that has another type than the result for it.
-fn left_reason<'t>(
-    right: &'t Term,
-    left: Option<&VariableId>,
-    place: usize,
-    statement: &Statement,
-) -> TypeReason<'t> {
-    TypeReason {
-        rule: TypeRule::Left(place.saturating_add(1)),
-        offset: left_offset(statement, place),
-        sign_offset: None,
-        found: Typed::Result(right, place),
-        wanted: match left {
-            Some(left) => Typed::Variable(*left),
-            None => Typed::Nothing,
-        },
-    }
+    Ok(own)
 }
 
 /// Whether a left variable has the type of its result.
@@ -178,30 +137,27 @@ fn is_like(
     alloc: Global,
     env: &TypeEnv,
     left: VariableId,
-    right: &DataType,
+    right: Option<&DataType>,
 ) -> Result<bool, AllocError> {
-    match env.variable(alloc, left)? {
-        Some(declared) => Ok(right.equals(&declared)),
-        None => Ok(false),
+    match (env.variable(alloc, left)?, right) {
+        (Some(declared), Some(right)) => Ok(right.equals(&declared)),
+        _ => Ok(false),
     }
 }
 
-/// The place of the first result that has another type than its left variable, if there is one.
+/// The place of the first left variable that has another type than its result.
 fn first_unlike(
     alloc: Global,
     env: &TypeEnv,
     lefts: &[VariableId],
     rights: &[DataType],
-) -> Result<Option<usize>, AllocError> {
-    for (place, right) in rights.iter().enumerate() {
-        let Some(left) = lefts.get(place) else {
-            return Ok(None);
-        };
-        if !is_like(alloc, env, *left, right)? {
-            return Ok(Some(place));
+) -> Result<usize, AllocError> {
+    for (place, left) in lefts.iter().enumerate() {
+        if !is_like(alloc, env, *left, rights.get(place))? {
+            return Ok(place);
         }
     }
-    Ok(None)
+    Ok(0)
 }
 
 /// The reason why an equation breaks the rules whose right side has results of these types.
@@ -213,25 +169,23 @@ fn lefts_reason<'t>(
     rights: &[DataType],
     statement: &Statement,
 ) -> Result<TypeReason<'t>, AllocError> {
-    let count = count_reason(right, lefts.len(), rights.len(), statement);
-    if lefts.len() != rights.len() {
-        return Ok(count);
+    let (found, wanted) = (lefts.len(), rights.len());
+    if found != wanted {
+        let rule = TypeRule::LeftCount { found, wanted };
+        let all = Typed::Results(right, None);
+        return Ok(types_differ(rule, left_offset(statement, 0), all, Typed::Nothing));
     }
-    match first_unlike(alloc, env, lefts, rights)? {
-        Some(place) => Ok(left_reason(right, lefts.get(place), place, statement)),
-        None => Ok(count),
-    }
-}
-
-/// The reason for an assertion of what is not one truth.
-fn assertion_reason<'t>(term: &'t Term, expr: &Expr) -> TypeReason<'t> {
-    TypeReason {
-        rule: TypeRule::Assertion,
-        offset: expr.offset(),
-        sign_offset: None,
-        found: Typed::Results(term),
-        wanted: Typed::Scalar(Kind::Bool),
-    }
+    let place = first_unlike(alloc, env, lefts, rights)?;
+    let declared = match lefts.get(place) {
+        Some(left) => Typed::Variable(*left),
+        None => Typed::Nothing,
+    };
+    Ok(types_differ(
+        TypeRule::Left(place.saturating_add(1)),
+        left_offset(statement, place),
+        Typed::Results(right, Some(place)),
+        declared,
+    ))
 }
 
 /// The reason why a statement breaks the rules whose right side, or whose assertion, has results of
@@ -247,21 +201,27 @@ fn results_reason<'t>(
         ResolvedStatement::Equation(lefts, right) => {
             lefts_reason(alloc, env, lefts, right, rights, statement)
         }
-        ResolvedStatement::Assertion(term) => { Ok(assertion_reason(term, right_side(statement))) }
+        ResolvedStatement::Assertion(term) => Ok(types_differ(
+            TypeRule::Assertion,
+            right_side(statement).offset(),
+            Typed::Results(term, None),
+            Typed::Scalar(Kind::Bool),
+        )),
     }
 }
 
-/// The types of the results of a call or an iterator, if it has any.
-fn call_results(
+/// The reason why a part of a term, or the term itself, has no type.
+fn untyped_reason<'t>(
     alloc: Global,
-    env: &TypeEnv,
-    term: &Term,
-) -> Result<Option<Vec<DataType>>, AllocError> {
-    match term {
-        Term::Call(_, _) | Term::IterateNode(_, _, _) | Term::IterateSymbol(_, _, _, _) => {
-            results(alloc, env, term)
-        }
-        _ => Ok(None),
+    env: &TypeEnv<'t, '_>,
+    whole: Site<'t>,
+) -> Result<TypeReason<'t>, AllocError> {
+    let mut site = whole;
+    typed_term(alloc, env, whole, &mut site)?;
+    let mut within = site;
+    match typed_operands(alloc, env, site, &mut within)? {
+        Some(types) => type_reason(alloc, env, site, &types),
+        None => Ok(of_rule(TypeRule::Length, site.offset())),
     }
 }
 
@@ -273,36 +233,30 @@ fn statement_reason<'t>(
     statement: &'t Statement,
 ) -> Result<TypeReason<'t>, AllocError> {
     let (ResolvedStatement::Equation(_, term) | ResolvedStatement::Assertion(term)) = resolved;
-    let whole = ungrouped(term, right_side(statement));
-    match typed_term(alloc, env, whole)? {
-        Typing::Typed(own) => {
-            let mut rights = Vec::new(alloc);
-            rights.push(own)?;
-            results_reason(alloc, env, resolved, statement, &rights)
-        }
-        Typing::Untyped(site) => match call_results(alloc, env, whole.term)? {
-            Some(rights) => results_reason(alloc, env, resolved, statement, &rights),
-            None => type_reason(alloc, env, site),
-        },
+    match results(alloc, env, term)? {
+        Some(rights) => results_reason(alloc, env, resolved, statement, &rights),
+        None => untyped_reason(alloc, env, ungrouped(term, right_side(statement))),
     }
 }
 
 /// The reason for a variable of a declared clock that is no truth.
 fn clock_reason<'t>(env: &TypeEnv<'t, '_>, variable: VariableId) -> TypeReason<'t> {
-    let clock = match env.node.variables.get(variable.0) {
-        Some(declared) => declared.clock,
-        None => None,
+    let found = match env.node.variables.get(variable.0) {
+        Some(
+            Variable {
+                clock: Some(clock),
+                ..
+            },
+        ) => Typed::Variable(clock.variable),
+        _ => Typed::Nothing,
     };
-    TypeReason {
-        rule: TypeRule::ClockVariable,
-        offset: clock_offset(env.node.tree, variable),
-        sign_offset: None,
-        found: match clock {
-            Some(clock) => Typed::Variable(clock.variable),
-            None => Typed::Nothing,
-        },
-        wanted: Typed::Scalar(Kind::Bool),
-    }
+    let offset = clock_offset(env.node.tree, variable);
+    types_differ(
+        TypeRule::ClockVariable,
+        offset,
+        found,
+        Typed::Scalar(Kind::Bool),
+    )
 }
 
 /// The reason why a part of a specialization breaks the rules of types.
@@ -324,135 +278,108 @@ fn part_reason<'t>(
     }
 }
 
-/// The type of the result of a right side at a place.
-fn result_at(
+/// The type that is reported, where it is not that of a result.
+fn told_type(alloc: Global, env: &TypeEnv, typed: Typed) -> Result<Option<DataType>, AllocError> {
+    match typed {
+        Typed::Nothing | Typed::Results(_, _) => Ok(None),
+        Typed::Scalar(kind) => Ok(Some(DataType::scalar(alloc, kind))),
+        Typed::Variable(x) => env.variable(alloc, x),
+        Typed::Input(row, place) => row.get(alloc, place),
+    }
+}
+
+/// Adds a type as it is written.
+fn add_type(types: &mut Vec<SourceType>, data_type: DataType) -> Result<(), AllocError> {
+    types.push(SourceType {
+        kind: data_type.kind,
+        sizes: data_type.sizes,
+    })?;
+    Ok(())
+}
+
+/// Adds the types of the results of a term, or of the one at a place alone.
+fn add_results(
     alloc: Global,
     env: &TypeEnv,
     term: &Term,
-    place: usize,
-) -> Result<Option<DataType>, AllocError> {
-    match side_types(alloc, env, term, &mut PartTypes::none(alloc))? {
-        SideTypes::Single(own) => Ok(own),
-        SideTypes::Several(Some(given)) => given.get(alloc, place),
-        SideTypes::Several(None) => Ok(None),
+    only: Option<usize>,
+    types: &mut Vec<SourceType>,
+) -> Result<(), AllocError> {
+    if let Some(data_types) = results(alloc, env, term)? {
+        for (place, data_type) in data_types.into_iter().enumerate() {
+            if place == only.unwrap_or(place) {
+                add_type(types, data_type)?;
+            }
+        }
     }
-}
-
-/// A type as it is written.
-fn shown(data_type: DataType) -> SourceType {
-    SourceType {
-        kind: data_type.kind,
-        sizes: data_type.sizes,
-    }
-}
-
-/// The type that is reported, if it is one.
-fn told_type(alloc: Global, env: &TypeEnv, typed: Typed) -> Result<Option<DataType>, AllocError> {
-    match typed {
-        Typed::Nothing | Typed::Results(_) => Ok(None),
-        Typed::Scalar(kind) => Ok(Some(DataType::scalar(alloc, kind))),
-        Typed::Variable(x) => env.variable(alloc, x),
-        Typed::One(term) => type_of(alloc, env, term),
-        Typed::Result(term, place) => result_at(alloc, env, term, place),
-        Typed::Input(row, place) => row.get(alloc, place),
-    }
+    Ok(())
 }
 
 /// The types that are reported.
 fn told_types(alloc: Global, env: &TypeEnv, typed: Typed) -> Result<Vec<SourceType>, AllocError> {
     let mut types = Vec::new(alloc);
-    if let Typed::Results(term) = typed {
-        if let Some(data_types) = results(alloc, env, term)? {
-            for data_type in data_types {
-                types.push(shown(data_type))?;
-            }
-        }
+    if let Typed::Results(term, only) = typed {
+        add_results(alloc, env, term, only, &mut types)?;
     } else if let Some(data_type) = told_type(alloc, env, typed)? {
-        types.push(shown(data_type))?;
+        add_type(&mut types, data_type)?;
     }
     Ok(types)
 }
 
-/// A reason in which the types are those that are reported.
-#[derive(Drop)]
-struct ToldReason {
-    rule: TypeRule,
-    offset: u32,
-    sign_offset: Option<u32>,
-    found: Vec<SourceType>,
-    wanted: Option<SourceType>,
-}
-
-/// The reported form of a reason.
-fn told(alloc: Global, env: &TypeEnv, reason: TypeReason) -> Result<ToldReason, AllocError> {
-    let found = told_types(alloc, env, reason.found)?;
-    let wanted = match told_type(alloc, env, reason.wanted)? {
-        Some(data_type) => Some(shown(data_type)),
-        None => None,
-    };
-    Ok(ToldReason {
-        rule: reason.rule,
-        offset: reason.offset,
-        sign_offset: reason.sign_offset,
-        found,
-        wanted,
-    })
-}
-
-/// The reported reason for a part.
-fn told_of(
+/// Adds the reason to a fault of types.
+fn explain(
     alloc: Global,
     reached: &Reached,
     table: &Table,
     found: IllTyped,
-) -> Result<ToldReason, AllocError> {
-    match (
+    fault: &mut TypeFault,
+) -> Result<(), AllocError>
+    ensures node { OnOk result (fault.new.node ≡ fault.old.node) }
+    ensures part { OnOk result (fault.new.part ≡ fault.old.part) }
+{
+    let (Some(specialization), Some(node)) = (
         table.specializations.get(found.place),
         reached.nodes.get(found.node.0),
-    ) {
-        (Some(specialization), Some(node)) => {
-            let env = TypeEnv {
-                reached,
-                table,
-                node,
-                specialization,
-            };
-            let reason = part_reason(alloc, &env, found.part)?;
-            told(alloc, &env, reason)
-        }
-        _ => Ok(ToldReason {
-            rule: TypeRule::Assertion,
-            offset: 0,
-            sign_offset: None,
-            found: Vec::new(alloc),
-            wanted: None,
-        }),
-    }
+    ) else {
+        return Ok(());
+    };
+    let env = &TypeEnv {
+        reached,
+        table,
+        node,
+        specialization,
+    };
+    let reason = part_reason(alloc, env, found.part)?;
+    fault.rule = reason.rule;
+    fault.offset = reason.offset;
+    fault.sign_offset = reason.sign_offset;
+    fault.found = told_types(alloc, env, reason.found)?;
+    fault.wanted = told_types(alloc, env, reason.wanted)?.pop();
+    Ok(())
 }
 
-/// The fault of types of this part.
-pub fn type_fault(
+/// The error that this part breaks the rules of types.
+pub fn type_error(
     alloc: Global,
     reached: &Reached,
     table: &Table,
     found: IllTyped,
-) -> Result<TypeFault, AllocError>
-    ensures node { IfOk result (λ f.
-        string_bytes f.node ≡ listed (λ n. n.name) (tree_at reached.now found.node)) }
-    ensures part { IfOk result (λ f. f.part ≡ found.part) }
+) -> Result<CheckError, AllocError>
+    ensures { (P : Program) → check_refusal P ≡ Some E9
+        → IsBroken (is_typed P) (is_part_typed P) P reached.now found.node found.part
+        → IfOk result (λ e. IsAnswer P (Err e)) }
 {
-    let path = path_to_specialization(alloc, reached, table, found.place)?;
-    let node = name_of(alloc, reached, found.node)?;
-    let told = told_of(alloc, reached, table, found)?;
-    Ok(TypeFault {
-        node,
+    let mut fault = TypeFault {
+        node: name_of(alloc, reached, found.node)?,
         part: found.part,
         part_offset: part_offset(reached, found.node, found.part),
-        rule: told.rule,
-        offset: told.offset,
-        sign_offset: told.sign_offset,
-        found: told.found,
-        wanted: told.wanted,
-        path,
-    })
+        rule: TypeRule::Assertion,
+        offset: 0,
+        sign_offset: None,
+        found: Vec::new(alloc),
+        wanted: None,
+        path: path_to(alloc, reached, table, found.node, Some(found.place))?,
+    };
+    explain(alloc, reached, table, found, &mut fault)?;
+    Ok(CheckError::Type(Box::new(alloc, fault)?))
 }

@@ -57,7 +57,6 @@ pub enum TypeRule {
 }
 
 /// A rule of types that is broken (E9), and where. Places are offsets in the source text, in bytes.
-#[derive(Drop)]
 pub struct TypeFault {
     /// The name of the node in which it is.
     pub node: String,
@@ -79,6 +78,23 @@ pub struct TypeFault {
     pub wanted: Option<SourceType>,
     /// The calls by which an instance of the node is reached that breaks the rule.
     pub path: CallPath,
+}
+
+// Not derived, so that a caller drops it in one step.
+impl Drop for TypeFault {
+    fn drop(self) {
+        let TypeFault {
+            node: _,
+            part: _,
+            part_offset: _,
+            rule: _,
+            offset: _,
+            sign_offset: _,
+            found: _,
+            wanted: _,
+            path: _,
+        } = self;
+    }
 }
 
 impl fmt::Display for TypeFault {

@@ -5,8 +5,7 @@ use crate::signature::TypeRow;
 use crate::sites::Site;
 use crate::type_env::TypeEnv;
 use crate::type_fault::TypeRule;
-use crate::types::type_of;
-use lb_static::{Term, VariableId};
+use lb_static::{DataType, Term, VariableId};
 use lb_syntax::{BinaryOperator, Kind, OperatorClass, UnaryOperator};
 use std::alloc::{AllocError, Global};
 
@@ -16,12 +15,8 @@ pub enum Typed<'t> {
     Nothing,
     Scalar(Kind),
     Variable(VariableId),
-    /// A term with one result.
-    One(&'t Term),
-    /// The results of a term.
-    Results(&'t Term),
-    /// The result of a term at a place.
-    Result(&'t Term, usize),
+    /// The results of a term, or the one at this place alone.
+    Results(&'t Term, Option<usize>),
     /// The type at a place of a row.
     Input(TypeRow<'t>, usize),
 }
@@ -37,225 +32,190 @@ pub struct TypeReason<'t> {
     pub wanted: Typed<'t>,
 }
 
-/// The reason for a rule that is broken at an offset, without types.
-pub fn of_rule<'t>(rule: TypeRule, offset: u32) -> TypeReason<'t> {
-    TypeReason {
-        rule,
-        offset,
-        sign_offset: None,
-        found: Typed::Nothing,
-        wanted: Typed::Nothing,
-    }
-}
-
-/// The reason for a term that is too long or too short, or of which nothing better is known.
-fn of_length<'t>(site: Site<'t>) -> TypeReason<'t> {
-    of_rule(TypeRule::Length, site.offset())
-}
-
-/// The reason for an operand, counted from 0, that has another type than is wanted.
-fn of_operand<'t>(
-    site: Site<'t>,
-    place: usize,
-    operand: &'t Term,
-    wanted: Typed<'t>,
-) -> TypeReason<'t> {
-    TypeReason {
-        rule: TypeRule::Operand(place.saturating_add(1)),
-        offset: site.operand_offset(place),
-        sign_offset: Some(site.sign_offset()),
-        found: Typed::One(operand),
-        wanted,
-    }
-}
-
-/// The reason for a wrong variable of `when`, index or slice end.
-fn of_inner<'t>(
-    site: Site<'t>,
+/// The reason for a rule that is broken at an offset, by another type than is wanted.
+pub fn types_differ<'t>(
     rule: TypeRule,
+    offset: u32,
     found: Typed<'t>,
     wanted: Typed<'t>,
 ) -> TypeReason<'t> {
     TypeReason {
         rule,
-        offset: site.inner_offset(),
+        offset,
+        sign_offset: None,
+        found,
+        wanted,
+    }
+}
+
+/// The reason for a rule that is broken at an offset, without types.
+pub fn of_rule<'t>(rule: TypeRule, offset: u32) -> TypeReason<'t> {
+    types_differ(rule, offset, Typed::Nothing, Typed::Nothing)
+}
+
+/// The reason for a part of an operator, at an offset, that has another type than is wanted.
+fn of_sign<'t>(
+    site: Site<'t>,
+    rule: TypeRule,
+    offset: u32,
+    found: Typed<'t>,
+    wanted: Typed<'t>,
+) -> TypeReason<'t> {
+    TypeReason {
+        rule,
+        offset,
         sign_offset: Some(site.sign_offset()),
         found,
         wanted,
     }
 }
 
-/// The kind of the operands of an operator; none where it takes each kind.
-fn operand_kind(op: BinaryOperator) -> Option<Kind> {
-    match op.class() {
-        OperatorClass::Logical => Some(Kind::Bool),
-        OperatorClass::Equality => None,
-        OperatorClass::Order | OperatorClass::Arithmetic => Some(Kind::Int),
+/// The type of the operand at a place.
+fn own<'t>(site: Site<'t>, place: usize) -> Typed<'t> {
+    Typed::Results(site.part(place).term, None)
+}
+
+/// The reason for an operand, counted from 0, that has another type than is wanted.
+fn of_operand<'t>(site: Site<'t>, place: usize, wanted: Typed<'t>) -> TypeReason<'t> {
+    let rule = TypeRule::Operand(place.saturating_add(1));
+    of_sign(
+        site,
+        rule,
+        site.part(place).offset(),
+        own(site, place),
+        wanted,
+    )
+}
+
+/// The place of the first type that has not this kind and these sizes.
+fn first_unlike(types: &[DataType], kind: Kind, sizes: &[u64]) -> Option<usize> {
+    for (place, found) in types.iter().enumerate() {
+        if found.kind != kind || found.sizes.as_slice() != sizes {
+            return Some(place);
+        }
+    }
+    None
+}
+
+/// The reason for operands of which one has not this kind and these sizes, or for too few or too
+/// many operands.
+fn of_unlike<'t>(
+    site: Site<'t>,
+    types: &[DataType],
+    kind: Kind,
+    sizes: &[u64],
+    wanted: Typed<'t>,
+) -> TypeReason<'t> {
+    match first_unlike(types, kind, sizes) {
+        Some(place) => of_operand(site, place, wanted),
+        None => of_rule(TypeRule::Length, site.offset()),
     }
 }
 
-/// The kind of a term, if its type is a scalar.
-fn scalar_kind(alloc: Global, env: &TypeEnv, term: &Term) -> Result<Option<Kind>, AllocError> {
-    match type_of(alloc, env, term)? {
-        Some(data_type) if data_type.sizes.is_empty() => Ok(Some(data_type.kind)),
-        _ => Ok(None),
-    }
-}
-
-/// Whether the type of a term is a scalar of this kind.
-fn is_scalar(alloc: Global, env: &TypeEnv, term: &Term, kind: Kind) -> Result<bool, AllocError> {
-    match scalar_kind(alloc, env, term)? {
-        Some(own) => Ok(own == kind),
-        None => Ok(false),
-    }
+/// The reason for operands of which one is no scalar of this kind.
+fn of_scalars<'t>(site: Site<'t>, types: &[DataType], kind: Kind) -> TypeReason<'t> {
+    of_unlike(site, types, kind, &[], Typed::Scalar(kind))
 }
 
 /// The reason for an operator with two operands, one of which has the wrong type.
-fn of_binary<'t>(
-    alloc: Global,
-    env: &TypeEnv,
-    site: Site<'t>,
-    op: BinaryOperator,
-    left: &'t Term,
-    right: &'t Term,
-) -> Result<TypeReason<'t>, AllocError> {
-    match operand_kind(op) {
-        Some(kind) => {
-            if is_scalar(alloc, env, left, kind)? {
-                Ok(of_operand(site, 1, right, Typed::Scalar(kind)))
-            } else {
-                Ok(of_operand(site, 0, left, Typed::Scalar(kind)))
-            }
+fn of_binary<'t>(site: Site<'t>, op: BinaryOperator, types: &[DataType]) -> TypeReason<'t> {
+    match (op.class(), types) {
+        (OperatorClass::Logical, _) => of_scalars(site, types, Kind::Bool),
+        (OperatorClass::Order | OperatorClass::Arithmetic, _) => {
+            of_scalars(site, types, Kind::Int)
         }
-        None => match scalar_kind(alloc, env, left)? {
-            Some(kind) => Ok(of_operand(site, 1, right, Typed::Scalar(kind))),
-            None => Ok(of_operand(site, 0, left, Typed::Nothing)),
-        },
+        (OperatorClass::Equality, [left, ..]) if left.sizes.is_empty() => {
+            of_scalars(site, types, left.kind)
+        }
+        (OperatorClass::Equality, _) => of_operand(site, 0, Typed::Nothing),
     }
-}
-
-/// The reason for a join of what is no array, or of arrays with different or too many elements.
-fn of_join<'t>(
-    alloc: Global,
-    env: &TypeEnv,
-    site: Site<'t>,
-    left: &'t Term,
-    right: &'t Term,
-) -> Result<TypeReason<'t>, AllocError> {
-    let first = type_of(alloc, env, left)?;
-    let second = type_of(alloc, env, right)?;
-    let (Some(mut element), Some(mut other)) = (first, second) else {
-        return Ok(of_length(site));
-    };
-    if element.sizes.pop().is_none() {
-        return Ok(of_operand(site, 0, left, Typed::Nothing));
-    }
-    if other.sizes.pop().is_none() || !element.equals(&other) {
-        return Ok(of_operand(site, 1, right, Typed::Nothing));
-    }
-    Ok(of_length(site))
 }
 
 /// The reason for a choice whose condition is no truth, or whose branches have different types.
-fn of_choice<'t>(
-    alloc: Global,
-    env: &TypeEnv,
-    site: Site<'t>,
-    condition: &'t Term,
-    left: &'t Term,
-    right: &'t Term,
-) -> Result<TypeReason<'t>, AllocError> {
-    if is_scalar(alloc, env, condition, Kind::Bool)? {
-        Ok(of_operand(site, 2, right, Typed::One(left)))
-    } else {
-        Ok(of_operand(site, 0, condition, Typed::Scalar(Kind::Bool)))
+fn of_choice<'t>(site: Site<'t>, types: &[DataType]) -> TypeReason<'t> {
+    match types {
+        [condition, ..] if condition.is_truth() => of_operand(site, 2, own(site, 1)),
+        _ => of_operand(site, 0, Typed::Scalar(Kind::Bool)),
     }
 }
 
 /// The reason for an index or a slice of what is no array, or one outside the array.
-fn of_index<'t>(
-    alloc: Global,
-    env: &TypeEnv,
-    site: Site<'t>,
-    array: &'t Term,
-) -> Result<TypeReason<'t>, AllocError> {
-    match type_of(alloc, env, array)? {
-        Some(found) if !found.sizes.is_empty() => {
-            Ok(of_inner(site, TypeRule::Index, Typed::One(array), Typed::Nothing))
-        }
-        _ => Ok(of_operand(site, 0, array, Typed::Nothing)),
+fn of_index<'t>(site: Site<'t>, types: &[DataType]) -> TypeReason<'t> {
+    match types {
+        [array] if !array.sizes.is_empty() => of_sign(
+            site,
+            TypeRule::Index,
+            site.inner_offset(),
+            own(site, 0),
+            Typed::Nothing,
+        ),
+        _ => of_operand(site, 0, Typed::Nothing),
     }
 }
 
-/// The reason for operands that should all be truths, one of which is none.
-fn of_truths<'t>(
-    alloc: Global,
-    env: &TypeEnv,
-    site: Site<'t>,
-    terms: &'t [Term],
-) -> Result<TypeReason<'t>, AllocError> {
-    for (place, term) in terms.iter().enumerate() {
-        if !is_scalar(alloc, env, term, Kind::Bool)? {
-            return Ok(of_operand(site, place, term, Typed::Scalar(Kind::Bool)));
-        }
+/// Whether two arrays have elements of one type.
+fn have_one_element(left: &DataType, right: &DataType) -> bool {
+    match (left.sizes.split_last(), right.sizes.split_last()) {
+        (Some((_, sizes)), Some((_, others))) => left.kind == right.kind && sizes == others,
+        _ => false,
     }
-    Ok(of_length(site))
+}
+
+/// The reason for a join of what is no array, or of arrays with different or too many elements.
+fn of_join<'t>(site: Site<'t>, types: &[DataType]) -> TypeReason<'t> {
+    match types {
+        [left, _] if left.sizes.is_empty() => of_operand(site, 0, Typed::Nothing),
+        [left, right] if !have_one_element(left, right) => of_operand(site, 1, Typed::Nothing),
+        _ => of_rule(TypeRule::Length, site.offset()),
+    }
 }
 
 /// The reason for elements of different types, or for too few or too many elements.
-fn of_elements<'t>(
-    alloc: Global,
-    env: &TypeEnv,
-    site: Site<'t>,
-    terms: &'t [Term],
-) -> Result<TypeReason<'t>, AllocError> {
-    let Some(first) = terms.first() else {
-        return Ok(of_length(site));
-    };
-    let Some(element) = type_of(alloc, env, first)? else {
-        return Ok(of_length(site));
-    };
-    for (place, term) in terms.iter().enumerate() {
-        match type_of(alloc, env, term)? {
-            Some(found) if element.equals(&found) => {}
-            _ => return Ok(of_operand(site, place, term, Typed::One(first))),
-        }
+fn of_elements<'t>(site: Site<'t>, types: &[DataType]) -> TypeReason<'t> {
+    match types.first() {
+        Some(first) => of_unlike(site, types, first.kind, &first.sizes, own(site, 0)),
+        None => of_rule(TypeRule::Length, site.offset()),
     }
-    Ok(of_length(site))
 }
 
-/// The reason why a term has no type, or a call not one, where each of its operands has a type.
+/// The reason why a term that is no call has no type, where its operands have these types.
+fn operand_reason<'t>(site: Site<'t>, types: &[DataType]) -> TypeReason<'t> {
+    match site.term {
+        Term::Literal(_) | Term::Truth(_) | Term::Value(_) | Term::Variable(_) => {
+            of_rule(TypeRule::Number, site.offset())
+        }
+        Term::Unary(UnaryOperator::Negate, _) => of_scalars(site, types, Kind::Int),
+        Term::Unary(UnaryOperator::Not, _) | Term::AtMostOne(_) | Term::Nor(_) => {
+            of_scalars(site, types, Kind::Bool)
+        }
+        Term::Binary(op, _, _) => of_binary(site, *op, types),
+        Term::If(_, _, _) => of_choice(site, types),
+        Term::Arrow(_, _) | Term::Fby(_, _) => of_operand(site, 1, own(site, 0)),
+        Term::When(_, x, _) => of_sign(
+            site,
+            TypeRule::ClockVariable,
+            site.inner_offset(),
+            Typed::Variable(*x),
+            Typed::Scalar(Kind::Bool),
+        ),
+        Term::Index(_, _) | Term::Slice(_, _, _) => of_index(site, types),
+        Term::Join(_, _) => of_join(site, types),
+        Term::Array(_) => of_elements(site, types),
+        _ => of_rule(TypeRule::Length, site.offset()),
+    }
+}
+
+/// The reason why a term has no type, or a call not one, where its operands have these types.
 pub fn type_reason<'t>(
     alloc: Global,
     env: &TypeEnv<'t, '_>,
     site: Site<'t>,
+    types: &[DataType],
 ) -> Result<TypeReason<'t>, AllocError> {
     match site.term {
-        Term::Literal(_) | Term::Truth(_) | Term::Value(_) | Term::Variable(_) => {
-            Ok(of_rule(TypeRule::Number, site.offset()))
+        Term::Call(_, _) | Term::IterateNode(_, _, _) | Term::IterateSymbol(_, _, _, _) => {
+            call_reason(alloc, env, site, types)
         }
-        Term::Unary(UnaryOperator::Not, a) => {
-            Ok(of_operand(site, 0, a, Typed::Scalar(Kind::Bool)))
-        }
-        Term::Unary(UnaryOperator::Negate, a) => {
-            Ok(of_operand(site, 0, a, Typed::Scalar(Kind::Int)))
-        }
-        Term::Binary(op, a, b) => of_binary(alloc, env, site, *op, a, b),
-        Term::If(c, a, b) => of_choice(alloc, env, site, c, a, b),
-        Term::Arrow(a, b) | Term::Fby(a, b) => Ok(of_operand(site, 1, b, Typed::One(a))),
-        Term::When(_, x, _) => {
-            let wanted = Typed::Scalar(Kind::Bool);
-            Ok(of_inner(site, TypeRule::ClockVariable, Typed::Variable(*x), wanted))
-        }
-        Term::Index(a, _) | Term::Slice(a, _, _) => of_index(alloc, env, site, a),
-        Term::Join(a, b) => of_join(alloc, env, site, a, b),
-        Term::Array(terms) => of_elements(alloc, env, site, terms),
-        Term::AtMostOne(terms) | Term::Nor(terms) => of_truths(alloc, env, site, terms),
-        Term::Call(_, terms)
-        | Term::IterateNode(_, _, terms)
-        | Term::IterateSymbol(_, _, _, terms) => call_reason(alloc, env, site, terms),
-        Term::Group(_) | Term::Pre(_) | Term::Current(_) | Term::Replicate(_, _) => {
-            Ok(of_length(site))
-        }
+        _ => Ok(operand_reason(site, types)),
     }
 }

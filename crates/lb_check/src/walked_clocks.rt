@@ -134,12 +134,21 @@ pub fn infer(alloc: Global, env: &ClockEnv, term: &Term) -> Result<Inferred, All
 }
 
 /// The operands that are inferred of a row of terms, and the operands in them.
-#[derive(Drop)]
 pub struct InferredRow {
     /// The operands, one for each term.
     pub operands: Vec<Operand>,
     /// The operands of each `current` and of each call in the terms, in text order.
     pub within: Vec<Operand>,
+}
+
+// Not derived, so that a caller drops it in one step.
+impl Drop for InferredRow {
+    fn drop(self) {
+        let InferredRow {
+            operands: _,
+            within: _,
+        } = self;
+    }
 }
 
 /// Infers the operands of a row of terms, and the operands in them.
