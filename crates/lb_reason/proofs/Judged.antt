@@ -1,7 +1,7 @@
 -- The row of the instant that decides a verdict.
-use Rattle.std.proofs.Common.{◌≡◌, ◌∙◌, ◌<◌, ℕ, zero, suc, ◌+◌, List, [], ◌∷◌, Bool, true, false}
+use Rattle.std.proofs.Common.{◌≡◌, ◌∙◌, ◌<◌, ℕ, suc, ◌+◌, List, [], ◌∷◌, Bool, true, false}
 use Rattle.std.proofs.Common.{Some, None, ap, arith, get_or, length, refl, subst, sym}
-use Rattle.std.proofs.Common.{is_some, map}
+use Rattle.std.proofs.Common.{is_some}
 use Rattle.std.specs.Prelude.{if◌then◌else◌}
 use Rattle.lb_check.specs.Solutions.{Inputs}
 use Rattle.lb_check.specs.Verdicts as verdicts
@@ -11,35 +11,13 @@ use Rattle.lb_check.specs.declared.verdict.Verdict.TheVariants.{Passed, Fault, U
 use Rattle.lb_check.specs.declared.verdict.Verdict.TheVariants.{False}
 use Rattle.lb_flat.specs.Judging.{FlatProgram, flat_verdict, named_elements, row_judged}
 use Rattle.lb_flat.specs.Judging.{rows_judged, some_in, truth_elements}
-use Rattle.lb_flat.specs.Flat.{FlatEquation}
-use Rattle.lb_flat.specs.Run.{Row, advanced, row_of, run}
+use Rattle.lb_flat.specs.Run.{Row, run}
 use Rattle.lb_flat.proofs.runs.Judging.{length-run}
-use Rattle.lb_history.specs.Replaying.{equations_before, row_at}
+use Rattle.lb_history.specs.Replaying.{row_at}
+use Rattle.lb_history.proofs.Runs.{run_row}
 use Rattle.lb_reason.specs.Deciding.{is_bad, is_false, is_nil}
 use Rattle.lb_reason.specs.Reasons.{first_place, instant_of}
 use Rattle.lb_reason.proofs.Firsts.{some_first}
-
--- ## The rows of a run
-
-module _ (size : ℕ) where
-  later :
-      (Q : List FlatEquation) (given : _) (X : Inputs) (t : ℕ) →
-      equations_before size Q (given ∷ X) (suc t)
-      ≡ equations_before size (map (advanced (row_of size Q given)) Q) X t
-  later Q given X zero = refl
-  later Q given X (suc t) =
-      ap (λ (E : List FlatEquation). map (advanced (row_of size E (get_or X t []))) E)
-      (later Q given X t)
-
-  -- row t of a run is the row of the equations before instant t
-  run_row :
-      (Q : List FlatEquation) (X : Inputs) (t : ℕ) → t < length X →
-      get_or (run size Q X) t [] ≡ row_of size (equations_before size Q X t) (get_or X t [])
-  run_row Q [] t lt = absurd (omega arith)
-  run_row Q (given ∷ X) zero lt = refl
-  run_row Q (given ∷ X) (suc t) lt =
-      run_row (map (advanced (row_of size Q given)) Q) X t (omega arith)
-      ∙ ap (λ E. row_of size E (get_or X t [])) (sym (later Q given X t))
 
 -- ## The tests of a row
 

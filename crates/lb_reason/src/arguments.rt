@@ -21,15 +21,9 @@ fn open_all<'a>(
     Ok(())
 }
 
-/// Opens the parts of a form that has a list of parts, or three parts.
-fn open_many<'a>(open: &mut Vec<Site<'a>>, site: Site<'a>) -> Result<(), AllocError> {
+/// Opens the parts of a form that has a list of them.
+fn open_list<'a>(open: &mut Vec<Site<'a>>, site: Site<'a>) -> Result<(), AllocError> {
     match (site.term, site.expr) {
-        (Term::If(t, u, v), Expr::If(e, f, g, _)) => {
-            open.push(site.at(&**t, &**e))?;
-            open.push(site.at(&**u, &**f))?;
-            open.push(site.at(&**v, &**g))?;
-            Ok(())
-        }
         (Term::Array(terms), Expr::Array(exprs, _))
         | (Term::AtMostOne(terms), Expr::AtMostOne(exprs, _))
         | (Term::Nor(terms), Expr::Nor(exprs, _))
@@ -44,28 +38,12 @@ fn open_many<'a>(open: &mut Vec<Site<'a>>, site: Site<'a>) -> Result<(), AllocEr
 
 /// Opens the parts of an expression.
 fn open_parts<'a>(open: &mut Vec<Site<'a>>, site: Site<'a>) -> Result<(), AllocError> {
-    match (site.term, site.expr) {
-        (Term::Group(t), Expr::Group(e, _))
-        | (Term::Unary(_, t), Expr::Unary(_, e, _))
-        | (Term::Pre(t), Expr::Pre(e, _))
-        | (Term::Current(t), Expr::Current(e, _))
-        | (Term::When(t, _, _), Expr::When(e, _, _, _))
-        | (Term::Replicate(t, _), Expr::Replicate(e, _, _))
-        | (Term::Index(t, _), Expr::Index(e, _, _))
-        | (Term::Slice(t, _, _), Expr::Slice(e, _, _, _)) => {
-            open.push(site.at(&**t, &**e))?;
-            Ok(())
+    for part in site.parts() {
+        if let Some(part) = part {
+            open.push(part)?;
         }
-        (Term::Binary(_, t, u), Expr::Binary(_, e, f, _))
-        | (Term::Arrow(t, u), Expr::Arrow(e, f, _))
-        | (Term::Fby(t, u), Expr::Fby(e, f, _))
-        | (Term::Join(t, u), Expr::Join(e, f, _)) => {
-            open.push(site.at(&**t, &**e))?;
-            open.push(site.at(&**u, &**f))?;
-            Ok(())
-        }
-        _ => open_many(open, site),
     }
+    open_list(open, site)
 }
 
 /// The argument at a place of a call, if an expression is that call.

@@ -1,7 +1,7 @@
 //! Expressions as they stand in the text of a source.
 
+use lb_show::Page;
 use lb_syntax::{Expr, Static, UnaryOperator};
-use std::alloc::{AllocError, Global};
 
 /// The most characters of an expression that are written; `..` stands for the rest.
 const MOST: usize = 60;
@@ -156,37 +156,34 @@ fn end_of(text: &[u8], expr: &Expr) -> usize {
 
 /// Adds an expression to a page as it stands in the text of its source, in one line and without
 /// comments.
-pub(crate) fn put_expression(
-    alloc: Global,
-    page: &mut Vec<u8>,
-    text: &[u8],
-    expr: &Expr,
-) -> Result<(), AllocError> {
+pub(crate) fn push_expression(page: &mut Page, text: &[u8], expr: &Expr) {
     let start = expr.offset() as usize;
     let end = end_of(text, expr).min(text.len());
-    let mut line: Vec<u8> = Vec::new(alloc);
     let mut at = start;
+    let mut count: usize = 0;
+    let mut is_spaced = false;
     for _ in start..end {
         at = comment_end(text, at);
-        if at >= end || line.len() >= MOST {
+        if at >= end || count >= MOST {
             break;
         }
         let b = byte_at(text, at);
-        if b > b' ' {
-            line.push(b)?;
-        } else if line.last().copied() != Some(b' ') {
-            line.push(b' ')?;
+        // Blanks are written as one space, once something follows them.
+        let is_blank = b <= b' ';
+        if is_spaced && !is_blank {
+            page.push(" ");
         }
+        if !is_blank {
+            page.push_byte(b);
+        }
+        if !is_blank || !is_spaced {
+            count = count.saturating_add(1);
+        }
+        is_spaced = is_blank;
         at = at.saturating_add(1);
     }
-    if line.last().copied() == Some(b' ') {
-        line.pop();
-    }
-    page.extend_from_slice(line.as_slice())?;
     if at < end {
-        page.extend_from_slice(b" ..")
-    } else {
-        Ok(())
+        page.push(" ..");
     }
 }
 

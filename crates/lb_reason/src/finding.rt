@@ -27,7 +27,6 @@ pub struct Step {
 }
 
 /// The reason why a trace does not pass.
-#[derive(Drop)]
 pub struct Reason<'a> {
     pub verdict: Verdict,
     /// The element that decides the verdict, and behind each element the one that decides it; empty
@@ -35,6 +34,17 @@ pub struct Reason<'a> {
     pub steps: Vec<Step>,
     /// The instant of the steps, if there are any.
     pub(crate) moment: Option<Moment<'a>>,
+}
+
+// Not derived, so that a caller drops it in one step.
+impl Drop for Reason<'_> {
+    fn drop(self) {
+        let Reason {
+            verdict: _,
+            steps: _,
+            moment: _,
+        } = self;
+    }
 }
 
 /// The first of some elements that passes a test, if one does.

@@ -4,11 +4,13 @@
 mod arguments;
 mod deciding;
 mod expressions;
+mod faults;
 mod finding;
 mod laws;
 mod moment;
 mod page;
 mod report;
+mod scene;
 mod site;
 mod told;
 

@@ -36,7 +36,6 @@ fn replay_to<'a>(
 }
 
 /// An instant of a recorded trace.
-#[derive(Drop)]
 pub(crate) struct Moment<'a> {
     /// The replay after the instant.
     after: Replay<'a>,
@@ -50,6 +49,18 @@ pub(crate) struct Moment<'a> {
     ghost before: { flat_equations program.now.clocks.items equations.items
         ≡ equations_before (program_of program.now).size (program_of program.now).equations
         (inputs_of (recording_in after) (trace_in after)) instant } by { Prim.hlevel replayed_props },
+}
+
+// Not derived, so that a caller drops it in one step.
+impl Drop for Moment<'_> {
+    fn drop(self) {
+        let Moment {
+            after: _,
+            equations: _,
+            instant: _,
+            program: _,
+        } = self;
+    }
 }
 
 impl<'a> Moment<'a> {

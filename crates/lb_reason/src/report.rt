@@ -6,7 +6,7 @@ use crate::site::Subject;
 use crate::told::{Recorded, put_reason};
 use lb_check::Checked;
 use lb_flat::Ordered;
-use lb_show::{Lines, signals_of};
+use lb_show::{Lines, Page, signals_of};
 use lb_traces::TraceSet;
 use std::alloc::{AllocError, Global};
 
@@ -46,7 +46,7 @@ pub fn explain_traces(
         program: &ordered.program,
         signals: &signals,
     };
-    let mut page = Vec::new(alloc);
+    let mut page = Page::of(Vec::new(alloc));
     for k in numbers {
         if *k < set.len() {
             let recorded = Recorded {
@@ -54,8 +54,9 @@ pub fn explain_traces(
                 set,
                 k: *k,
             };
-            put_reason(alloc, &mut page, subject, recorded)?;
+            let put = put_reason(alloc, &mut page, subject, recorded);
+            page.cut_if(put.is_err());
         }
     }
-    Ok(page)
+    page.whole()
 }

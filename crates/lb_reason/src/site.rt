@@ -38,6 +38,14 @@ pub(crate) struct Placed<'a> {
     pub(crate) site: Site<'a>,
 }
 
+/// An operand with its element.
+fn with_element<'a>(part: Option<Site<'a>>, element: ElementId) -> Option<(Site<'a>, ElementId)> {
+    match part {
+        Some(site) => Some((site, element)),
+        None => None,
+    }
+}
+
 impl<'a> Site<'a> {
     /// Another expression of the same node.
     pub(crate) fn at(&self, term: &'a Term, expr: &'a Expr) -> Site<'a> {
@@ -77,43 +85,56 @@ impl<'a> Site<'a> {
         }
     }
 
+    /// The parts of a form that has one, two or three of them.
+    pub(crate) fn parts(&self) -> [Option<Site<'a>>; 3] {
+        match (self.term, self.expr) {
+            (Term::Group(t), Expr::Group(e, _))
+            | (Term::Unary(_, t), Expr::Unary(_, e, _))
+            | (Term::Pre(t), Expr::Pre(e, _))
+            | (Term::Current(t), Expr::Current(e, _))
+            | (Term::When(t, _, _), Expr::When(e, _, _, _))
+            | (Term::Replicate(t, _), Expr::Replicate(e, _, _))
+            | (Term::Index(t, _), Expr::Index(e, _, _))
+            | (Term::Slice(t, _, _), Expr::Slice(e, _, _, _)) => {
+                [Some(self.at(&**t, &**e)), None, None]
+            }
+            (Term::Binary(_, t, u), Expr::Binary(_, e, f, _))
+            | (Term::Arrow(t, u), Expr::Arrow(e, f, _))
+            | (Term::Fby(t, u), Expr::Fby(e, f, _))
+            | (Term::Join(t, u), Expr::Join(e, f, _)) => {
+                [Some(self.at(&**t, &**e)), Some(self.at(&**u, &**f)), None]
+            }
+            (Term::If(t, u, v), Expr::If(e, f, g, _)) => [
+                Some(self.at(&**t, &**e)),
+                Some(self.at(&**u, &**f)),
+                Some(self.at(&**v, &**g)),
+            ],
+            _ => [None, None, None],
+        }
+    }
+
     /// The operands of an expression with their elements, where they are known.
     pub(crate) fn operands(&self, operation: Operation) -> [Option<(Site<'a>, ElementId)>; 3] {
         let site = self.ungrouped();
-        match (site.term, site.expr, operation) {
-            (Term::Unary(_, t), Expr::Unary(_, e, _), Operation::ApplyUnary(_, a)) => {
-                [Some((site.at(&**t, &**e), a)), None, None]
+        let [first, second, third] = site.parts();
+        match (site.term, operation) {
+            (Term::Unary(_, _), Operation::ApplyUnary(_, a))
+            | (Term::Pre(_), Operation::Previous(_, a))
+            | (Term::Current(_), Operation::Latest(_, a))
+            | (Term::When(_, _, _), Operation::Sample(a)) => [with_element(first, a), None, None],
+            (Term::Binary(_, _, _), Operation::ApplyBinary(_, a, b))
+            | (Term::Arrow(_, _), Operation::FirstThen(_, a, b)) => {
+                [with_element(first, a), with_element(second, b), None]
             }
-            (Term::Binary(_, t, u), Expr::Binary(_, e, f, _), Operation::ApplyBinary(_, a, b)) => [
-                Some((site.at(&**t, &**e), a)),
-                Some((site.at(&**u, &**f), b)),
-                None,
+            (Term::If(_, _, _), Operation::Choose(a, b, c)) => [
+                with_element(first, a),
+                with_element(second, b),
+                with_element(third, c),
             ],
-            (Term::If(t, u, v), Expr::If(e, f, g, _), Operation::Choose(a, b, c)) => [
-                Some((site.at(&**t, &**e), a)),
-                Some((site.at(&**u, &**f), b)),
-                Some((site.at(&**v, &**g), c)),
-            ],
-            (Term::Arrow(t, u), Expr::Arrow(e, f, _), Operation::FirstThen(_, a, b)) => [
-                Some((site.at(&**t, &**e), a)),
-                Some((site.at(&**u, &**f), b)),
-                None,
-            ],
-            (Term::Fby(t, _), Expr::Fby(e, _, _), Operation::FirstThen(_, a, b)) => {
-                [Some((site.at(&**t, &**e), a)), Some((site, b)), None]
+            (Term::Fby(_, _), Operation::FirstThen(_, a, b)) => {
+                [with_element(first, a), Some((site, b)), None]
             }
-            (Term::Fby(_, t), Expr::Fby(_, e, _), Operation::Previous(_, a)) => {
-                [Some((site.at(&**t, &**e), a)), None, None]
-            }
-            (Term::Pre(t), Expr::Pre(e, _), Operation::Previous(_, a)) => {
-                [Some((site.at(&**t, &**e), a)), None, None]
-            }
-            (Term::Current(t), Expr::Current(e, _), Operation::Latest(_, a)) => {
-                [Some((site.at(&**t, &**e), a)), None, None]
-            }
-            (Term::When(t, _, _), Expr::When(e, _, _, _), Operation::Sample(a)) => {
-                [Some((site.at(&**t, &**e), a)), None, None]
-            }
+            (Term::Fby(_, _), Operation::Previous(_, a)) => [with_element(second, a), None, None],
             _ => [None, None, None],
         }
     }
