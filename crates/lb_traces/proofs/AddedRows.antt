@@ -139,6 +139,15 @@ pub record Changed (elements : Elements) (names : List (List ℕ)) (numbers : Li
   pub is : IsSet elements names numbers words ends integers truths places
   pub view : stored elements names (cells_of elements numbers words ends) ends ≡ new
 
+-- a set whose parts are equal to those of a set after a change
+pub changed_by :
+    {elements : Elements} {names names' : List (List ℕ)} {numbers numbers' : List ℤ}
+    {words words' ends ends' integers truths places : List ℕ} {new : Recording} →
+    names' ≡ names → numbers' ≡ numbers → words' ≡ words → ends' ≡ ends →
+    Changed elements names numbers words ends integers truths places new →
+    Changed elements names' numbers' words' ends' integers truths places new
+changed_by n u w e h = rw (n, u, w, e) h
+
 -- a set with the parts of one more trace has that trace at the end
 pub set_started :
     (old : Recording) (elements : Elements) (names : List (List ℕ)) (numbers : List ℤ)

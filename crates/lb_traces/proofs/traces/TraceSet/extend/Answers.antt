@@ -1,5 +1,5 @@
 -- The integers and the words have grown by those of the rows, and the last place by their number.
-use Rattle.std.proofs.Common.{arith, rules, ◌≡◌, ◌++◌, length, ◌+◌, ◌-◌, ◌*◌, ap, ◌∙◌, set, take, refl}
+use Rattle.std.proofs.Common.{arith, ◌≡◌, ◌++◌, length, ◌+◌, ◌-◌, ◌*◌, ap, ◌∙◌, set, take, refl}
 use Rattle.std.proofs.Common.{drop, is_ok, true, length-drop}
 use Rattle.lb_traces.specs.Traces.{with_rows, rows_from, trace_at}
 use Rattle.lb_traces.specs.Ledger.{last_place}
@@ -7,7 +7,7 @@ use Rattle.lb_traces.specs.Packed.{cells_of, words_of_row}
 use Rattle.lb_traces.proofs.IntegerCounts.{integers-limit}
 use Rattle.lb_traces.proofs.Ledgers.{read_last}
 use Rattle.lb_traces.proofs.Storing.{count_of}
-use Rattle.lb_traces.proofs.AddedRows.{Changed}
+use Rattle.lb_traces.proofs.AddedRows.{Changed, changed_by}
 use Rattle.lb_traces.proofs.Extending.{finds_rest, set_grown, rows_fit_for}
 use Rattle.lb_traces.proofs.traces.TraceSet.extend.Goals as goal
 
@@ -30,8 +30,10 @@ overflow_mul-first c =
     c.set.inside.columns.places.items c.args.k c.set.view_is c.set.invariant c.requires.trace
     c.index.result.now
     c.args.from c.length.result c.len-width.result c.words_of_row-count.result c.index.ensures
-    c.requires.from c.length.ensures.instants (search rules)
-    (c.words_of_row-count.ensures ∙ ap words_of_row (search rules)) in
+    c.requires.from c.length.ensures.instants
+    (c.len-width.ensures ∙ c.set.inside.columns.integers.ok.0)
+    (c.words_of_row-count.ensures
+    ∙ ap words_of_row (c.len.ensures ∙ c.set.inside.columns.truths.ok.0)) in
     omega (
       arith,
       rest.numbers_fit,
@@ -51,8 +53,10 @@ overflow_mul-past c =
     c.set.inside.columns.places.items c.args.k c.set.view_is c.set.invariant c.requires.trace
     c.index.result.now
     c.args.from c.length.result c.len-width.result c.words_of_row-count.result c.index.ensures
-    c.requires.from c.length.ensures.instants (search rules)
-    (c.words_of_row-count.ensures ∙ ap words_of_row (search rules)) in
+    c.requires.from c.length.ensures.instants
+    (c.len-width.ensures ∙ c.set.inside.columns.integers.ok.0)
+    (c.words_of_row-count.ensures
+    ∙ ap words_of_row (c.len.ensures ∙ c.set.inside.columns.truths.ok.0)) in
     omega (
       arith,
       rest.numbers_fit,
@@ -71,8 +75,10 @@ extend-requires-clause-order c =
     c.set.inside.columns.places.items c.args.k c.set.view_is c.set.invariant c.requires.trace
     c.index.result.now
     c.args.from c.length.result c.len-width.result c.words_of_row-count.result c.index.ensures
-    c.requires.from c.length.ensures.instants (search rules)
-    (c.words_of_row-count.ensures ∙ ap words_of_row (search rules)) in
+    c.requires.from c.length.ensures.instants
+    (c.len-width.ensures ∙ c.set.inside.columns.integers.ok.0)
+    (c.words_of_row-count.ensures
+    ∙ ap words_of_row (c.len.ensures ∙ c.set.inside.columns.truths.ok.0)) in
     rest.numbers_first
 
 pub extend-requires-clause-within : goal.extend-requires-clause-within
@@ -85,8 +91,10 @@ extend-requires-clause-within c =
     c.set.inside.columns.places.items c.args.k c.set.view_is c.set.invariant c.requires.trace
     c.index.result.now
     c.args.from c.length.result c.len-width.result c.words_of_row-count.result c.index.ensures
-    c.requires.from c.length.ensures.instants (search rules)
-    (c.words_of_row-count.ensures ∙ ap words_of_row (search rules)) in
+    c.requires.from c.length.ensures.instants
+    (c.len-width.ensures ∙ c.set.inside.columns.integers.ok.0)
+    (c.words_of_row-count.ensures
+    ∙ ap words_of_row (c.len.ensures ∙ c.set.inside.columns.truths.ok.0)) in
     rest.numbers_fit
 
 pub overflow_mul-words : goal.overflow_mul-words
@@ -99,8 +107,10 @@ overflow_mul-words c =
     c.set.inside.columns.places.items c.args.k c.set.view_is c.set.invariant c.requires.trace
     c.index.result.now
     c.args.from c.length.result c.len-width.result c.words_of_row-count.result c.index.ensures
-    c.requires.from c.length.ensures.instants (search rules)
-    (c.words_of_row-count.ensures ∙ ap words_of_row (search rules)) in
+    c.requires.from c.length.ensures.instants
+    (c.len-width.ensures ∙ c.set.inside.columns.integers.ok.0)
+    (c.words_of_row-count.ensures
+    ∙ ap words_of_row (c.len.ensures ∙ c.set.inside.columns.truths.ok.0)) in
     omega (arith, rest.words_fit, rest.words_first, c.set.inside.words.small)
 
 pub overflow_mul-words-2 : goal.overflow_mul-words-2
@@ -113,8 +123,10 @@ overflow_mul-words-2 c =
     c.set.inside.columns.places.items c.args.k c.set.view_is c.set.invariant c.requires.trace
     c.index.result.now
     c.args.from c.length.result c.len-width.result c.words_of_row-count.result c.index.ensures
-    c.requires.from c.length.ensures.instants (search rules)
-    (c.words_of_row-count.ensures ∙ ap words_of_row (search rules)) in
+    c.requires.from c.length.ensures.instants
+    (c.len-width.ensures ∙ c.set.inside.columns.integers.ok.0)
+    (c.words_of_row-count.ensures
+    ∙ ap words_of_row (c.len.ensures ∙ c.set.inside.columns.truths.ok.0)) in
     omega (arith, rest.words_fit, c.set.inside.words.small)
 
 pub offset_bounds-as_slice-first : goal.offset_bounds-as_slice-first
@@ -127,8 +139,10 @@ offset_bounds-as_slice-first c =
     c.set.inside.columns.places.items c.args.k c.set.view_is c.set.invariant c.requires.trace
     c.index.result.now
     c.args.from c.length.result c.len-width.result c.words_of_row-count.result c.index.ensures
-    c.requires.from c.length.ensures.instants (search rules)
-    (c.words_of_row-count.ensures ∙ ap words_of_row (search rules)) in
+    c.requires.from c.length.ensures.instants
+    (c.len-width.ensures ∙ c.set.inside.columns.integers.ok.0)
+    (c.words_of_row-count.ensures
+    ∙ ap words_of_row (c.len.ensures ∙ c.set.inside.columns.truths.ok.0)) in
     omega (arith, rest.words_fit, rest.words_first, c.set.inside.words.small)
 
 pub slice_bounds-words-end : goal.slice_bounds-words-end
@@ -141,20 +155,24 @@ slice_bounds-words-end c =
     c.set.inside.columns.places.items c.args.k c.set.view_is c.set.invariant c.requires.trace
     c.index.result.now
     c.args.from c.length.result c.len-width.result c.words_of_row-count.result c.index.ensures
-    c.requires.from c.length.ensures.instants (search rules)
-    (c.words_of_row-count.ensures ∙ ap words_of_row (search rules)) in
+    c.requires.from c.length.ensures.instants
+    (c.len-width.ensures ∙ c.set.inside.columns.integers.ok.0)
+    (c.words_of_row-count.ensures
+    ∙ ap words_of_row (c.len.ensures ∙ c.set.inside.columns.truths.ok.0)) in
     omega (arith, rest.words_fit, rest.words_first)
 
 rows_are : (c : goal.After-self-1) → c.index_mut.result.now
     ≡ last_place c.self.inside.row_ends.items
 rows_are c = read_last c.self.inside.row_ends.items c.len-last.result c.index_mut.result.now
-    c.self.invariant.parts.rows.ledger (search rules) c.index_mut.ensures.value
+    c.self.invariant.parts.rows.ledger (c.len-last.ensures ∙ c.self.inside.row_ends.ok.0)
+    c.index_mut.ensures.value
 
 pub overflow_add-index_mut : goal.overflow_add-index_mut
 overflow_add-index_mut c =
     let rows : c.index_mut.result.now ≡ last_place c.self.inside.row_ends.items =
     read_last c.self.inside.row_ends.items c.len-last.result c.index_mut.result.now
-    c.self.invariant.parts.rows.ledger (search rules) c.index_mut.ensures.value in
+    c.self.invariant.parts.rows.ledger (c.len-last.ensures ∙ c.self.inside.row_ends.ok.0)
+    c.index_mut.ensures.value in
     let s = c.self.inside in
     omega (
       arith,
@@ -169,7 +187,8 @@ overflow_add-index_mut c =
 
 at_end : (c : goal.After-self-1) → (c.len-last.result - 1) + 1 ≡ length c.self.inside.row_ends.items
 at_end c =
-    let count : c.len-last.result ≡ length c.self.inside.row_ends.items = search rules in
+    let count : c.len-last.result ≡ length c.self.inside.row_ends.items =
+    c.len-last.ensures ∙ c.self.inside.row_ends.ok.0 in
     omega (arith, c.self.invariant.parts.rows.ledger.not_empty)
 
 numbers_are : (c : goal.After-self-1) → c.extend.new.self.items
@@ -190,6 +209,15 @@ words_are c =
     let room : is_ok c.extend_from_slice.result ≡ true =
     c.extend_from_slice.ensures.succeeds (omega (arith, c.in_ok-reserve.ensures.ok)) in
     rw (← c.in_ok-reserve.ensures.items) (rw room at c.extend_from_slice.ensures.items)
+
+ends_are : (c : goal.After-self-1) →
+    set c.self.inside.row_ends.items (c.len-last.result - 1)
+    (c.index_mut.result.now + (c.length.result - c.args.from))
+    ≡ set c.self.inside.row_ends.items (c.len-last.result - 1)
+    (last_place c.self.inside.row_ends.items + (c.length.result - c.args.from))
+ends_are c =
+    ap (λ v. set c.self.inside.row_ends.items (c.len-last.result - 1)
+    (v + (c.length.result - c.args.from))) (rows_are c)
 
 changed :
     (c : goal.After-self-1) →
@@ -222,8 +250,10 @@ changed c =
     c.set.inside.columns.places.items c.args.k c.set.view_is c.set.invariant c.requires.trace
     c.index.result.now
     c.args.from c.length.result c.len-width.result c.words_of_row-count.result c.index.ensures
-    c.requires.from c.length.ensures.instants (search rules)
-    (c.words_of_row-count.ensures ∙ ap words_of_row (search rules))
+    c.requires.from c.length.ensures.instants
+    (c.len-width.ensures ∙ c.set.inside.columns.integers.ok.0)
+    (c.words_of_row-count.ensures
+    ∙ ap words_of_row (c.len.ensures ∙ c.set.inside.columns.truths.ok.0))
     c.args.self.now c.self.inside.signature c.self.inside.names c.self.inside.numbers.items
     c.self.inside.words.items
     c.self.inside.row_ends.items c.self.inside.columns.integers.items
@@ -234,7 +264,9 @@ changed c =
     c.as_slice.ensures.value c.requires.instants c.requires.room
 
 pub invariant_of-self-2 : goal.invariant_of-self-2
-invariant_of-self-2 c = rw (numbers_are c, words_are c, rows_are c) (changed c).is
+invariant_of-self-2 c =
+    (changed_by refl (numbers_are c) (words_are c) (ends_are c) (changed c)).is
 
 pub returns-clause-ok : goal.returns-clause-ok
-returns-clause-ok c = rw (numbers_are c, words_are c, rows_are c) (changed c).view
+returns-clause-ok c =
+    (changed_by refl (numbers_are c) (words_are c) (ends_are c) (changed c)).view

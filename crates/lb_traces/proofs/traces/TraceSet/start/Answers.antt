@@ -1,13 +1,13 @@
 -- The names, the integers, the words and the places have grown by one trace of one row.
-use Rattle.std.proofs.Common.{arith, rules, ◌≡◌, ◌<◌, ◌++◌, ◌∷◌, [], length, ◌+◌, ap, ap₂, ◌∙◌, sym}
-use Rattle.std.proofs.Common.{subst, is_ok, true}
+use Rattle.std.proofs.Common.{arith, ◌≡◌, ◌<◌, ◌++◌, ◌∷◌, [], length, ◌+◌, ap, ap₂, ◌∙◌, sym}
+use Rattle.std.proofs.Common.{refl, subst, is_ok, true}
 use Rattle.lb_traces.specs.Traces.{Recording, with_trace}
 use Rattle.lb_traces.specs.Ledger.{last_place}
 use Rattle.lb_traces.specs.Packed.{cells_of, numbers_in, HasPushed}
 use Rattle.lb_traces.proofs.Ledgers.{read_last}
 use Rattle.lb_traces.proofs.StoredRows.{length-stored}
 use Rattle.lb_traces.proofs.Storing.{rows_fit_of}
-use Rattle.lb_traces.proofs.AddedRows.{Changed, set_started, integers_in, truths_in, alone_in}
+use Rattle.lb_traces.proofs.AddedRows.{Changed, changed_by, set_started, integers_in, truths_in, alone_in}
 use Rattle.lb_traces.proofs.SixteenRows.{ints-of}
 use Rattle.lb_traces.proofs.IntegerCounts.{integers-limit}
 use Rattle.lb_traces.proofs.traces.TraceSet.start.Goals as goal
@@ -29,7 +29,8 @@ rows_are : (c : goal.After-push-arg-2-1) → c.index-rows.result.now
 rows_are c =
     let items : c.reserve.new.self.items ≡ c.self.inside.row_ends.items =
     c.in_ok-reserve.ensures.items in
-    let count : c.len-3.result ≡ length c.reserve.new.self.items = search rules in
+    let count : c.len-3.result ≡ length c.reserve.new.self.items =
+    c.len-3.ensures ∙ c.reserve.new.self.ok.0 in
     read_last c.self.inside.row_ends.items c.len-3.result c.index-rows.result.now
     c.self.invariant.parts.rows.ledger (count ∙ ap length items) (rw items at c.index-rows.ensures)
 
@@ -61,7 +62,8 @@ ends_are c =
     c.in_ok-reserve.ensures.items in
     let room : is_ok c.push-2.result ≡ true = c.push-2.ensures.succeeds
     (omega (arith, c.in_ok-reserve.ensures.ok)) in
-    let count : c.len-3.result ≡ length c.reserve.new.self.items = search rules in
+    let count : c.len-3.result ≡ length c.reserve.new.self.items =
+    c.len-3.ensures ∙ c.reserve.new.self.ok.0 in
     let rows : c.index-rows.result.now ≡ last_place c.self.inside.row_ends.items =
     read_last c.self.inside.row_ends.items c.len-3.result c.index-rows.result.now
     c.self.invariant.parts.rows.ledger (count ∙ ap length items)
@@ -72,7 +74,8 @@ ends_are c =
 
 pub push_row-requires-clause-room : goal.push_row-requires-clause-room
 push_row-requires-clause-room c =
-    let long : c.len.result ≡ length c.self.inside.columns.integers.items = search rules in
+    let long : c.len.result ≡ length c.self.inside.columns.integers.items =
+    c.len.ensures ∙ c.self.inside.columns.integers.ok.0 in
     omega (arith, c.in_ok-reserve_row.ensures.ok, long, ap length c.as_slice.ensures.value)
 
 pub push_row-requires-clause-columns : goal.push_row-requires-clause-columns
@@ -146,10 +149,10 @@ changed c =
     c.requires.name c.requires.fresh c.requires.row c.requires.count c.requires.room (words_are c)
 
 pub invariant_of-self-2 : goal.invariant_of-self-2
-invariant_of-self-2 c = rw (names_are c, numbers_are c, ends_are c) (changed c).is
+invariant_of-self-2 c = (changed_by (names_are c) (numbers_are c) refl (ends_are c) (changed c)).is
 
 pub returns-clause-ok : goal.returns-clause-ok
-returns-clause-ok c = rw (names_are c, numbers_are c, ends_are c) (changed c).view
+returns-clause-ok c = (changed_by (names_are c) (numbers_are c) refl (ends_are c) (changed c)).view
 
 pub push_words-requires-clause-ints : goal.push_words-requires-clause-ints
 push_words-requires-clause-ints c =
