@@ -57,18 +57,29 @@ fn wired_to(tested: &Node, number: usize) -> Option<&str> {
     }
 }
 
+/// Puts the warning that an input of an observer is wired to something of another name.
+fn put_warning(
+    page: &mut String,
+    observer: &Node,
+    input: &str,
+    tested: &Node,
+    other: &str,
+) -> Result<(), AllocError> {
+    let (observer, tested) = (observer.name.as_str(), tested.name.as_str());
+    write!(page, "warning: {observer}.{input} is {tested}.{other}\n")
+}
+
 /// Puts a warning for each input of an observer that is wired to something of another name.
 fn put_warnings(page: &mut String, observer: &Node, tested: &Node) -> Result<(), AllocError> {
     let inputs = observer.inputs.as_slice();
-    let (watching, watched) = (observer.name.as_str(), tested.name.as_str());
     let mut told: usize = 0;
     for number in 0..count_of(inputs) {
-        let (Some(input), Some(other)) = (name_at(inputs, number), wired_to(tested, number)) else {
-            return Ok(());
-        };
-        if input != other && told < MOST {
-            write!(page, "warning: {watching}.{input} is {watched}.{other}\n")?;
-            told = told.saturating_add(1);
+        match (name_at(inputs, number), wired_to(tested, number)) {
+            (Some(input), Some(other)) if input != other && told < MOST => {
+                put_warning(page, observer, input, tested, other)?;
+                told = told.saturating_add(1);
+            }
+            _ => {}
         }
     }
     Ok(())
