@@ -2,6 +2,7 @@
 pub mod EmittedStacks
 pub mod EmissionSteps
 pub mod TermSteps
+pub mod TermSizes
 pub mod EmittedChains
 pub mod EmittedStatements
 pub mod EmittedWalks

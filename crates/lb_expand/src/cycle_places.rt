@@ -11,19 +11,17 @@ use crate::layout::{ElementPlace, Layout};
 use lb_check::Checked;
 use lb_flat::{Cycle, CyclePlace, ElementId, OrderError};
 use lb_static::{
-    CallPath, Origin, Reached, ResolvedNode, ResolvedStatement, StaticInt, Table, call_path,
-    part_of,
+    CallPath, Origin, Reached, ResolvedNode, ResolvedStatement, Specialization, StaticInt, Table,
+    call_path, part_of,
 };
-use lb_syntax::{Declarations, Name};
+use lb_syntax::{Declarations, Name, Node, Statement};
 use std::alloc::{AllocError, Global};
 
-/// The variables of a node.
-#[derive(Drop)]
-struct Definitions<'s> {
-    /// Their names: the inputs, then the outputs, then the locals.
-    names: Vec<&'s Name>,
-    /// The offset of the equation of each, if there is one.
-    equations: Vec<Option<u32>>,
+/// A variable of a node: its name, and the offset of its equation, if there is one.
+#[derive(Clone, Copy)]
+struct Definition<'s> {
+    name: &'s Name,
+    equation: Option<u32>,
 }
 
 /// The data from which the places of elements are read.
@@ -32,48 +30,74 @@ struct Places<'a, 's> {
     reached: &'a Reached<'s>,
     table: &'a Table,
     layout: &'a Layout,
-    /// The variables of each node that is reached.
-    definitions: &'a [Definitions<'s>],
+    /// The variables of each node that is reached: the inputs, then the outputs, then the locals.
+    definitions: &'a [Vec<Definition<'s>>],
 }
 
-/// Adds the names that are declared in some groups.
-fn push_names<'s>(names: &mut Vec<&'s Name>, groups: &'s [Declarations]) -> Result<(), AllocError> {
+/// Adds the variables that are declared in some groups, without their equations.
+fn push_declared<'s>(
+    variables: &mut Vec<Definition<'s>>,
+    groups: &'s [Declarations],
+) -> Result<(), AllocError> {
     for group in groups {
         for name in &group.names {
-            names.push(name)?;
+            variables.push(Definition {
+                name,
+                equation: None,
+            })?;
         }
     }
     Ok(())
+}
+
+/// Adds the variables of a node, without their equations.
+fn push_variables<'s>(
+    variables: &mut Vec<Definition<'s>>,
+    tree: &'s Node,
+) -> Result<(), AllocError> {
+    push_declared(variables, tree.inputs.as_slice())?;
+    push_declared(variables, tree.outputs.as_slice())?;
+    push_declared(variables, tree.locals.as_slice())
+}
+
+/// Puts the offset of an equation to the variables on its left side.
+fn put_equation(variables: &mut [Definition<'_>], statement: &ResolvedStatement, offset: u32) {
+    if let ResolvedStatement::Equation(lefts, _) = statement {
+        for left in lefts {
+            if left.0 < variables.len() {
+                variables[left.0].equation = Some(offset);
+            }
+        }
+    }
+}
+
+/// Puts the offsets of the equations of a node to the variables.
+fn put_equations(
+    variables: &mut [Definition<'_>],
+    statements: &[ResolvedStatement],
+    written: &[Statement],
+) {
+    for i in 0..statements.len().min(written.len()) {
+        put_equation(variables, &statements[i], written[i].offset());
+    }
 }
 
 /// The variables of a node.
 fn definitions_of<'s>(
     alloc: Global,
     node: &ResolvedNode<'s>,
-) -> Result<Definitions<'s>, AllocError> {
-    let tree = node.tree;
-    let mut names = Vec::new(alloc);
-    push_names(&mut names, tree.inputs.as_slice())?;
-    push_names(&mut names, tree.outputs.as_slice())?;
-    push_names(&mut names, tree.locals.as_slice())?;
-    let mut equations = vec![in alloc; None; names.len()]?;
-    for (statement, written) in node.body.iter().zip(tree.body.iter()) {
-        if let ResolvedStatement::Equation(variables, _) = statement {
-            for variable in variables {
-                if let Some(equation) = equations.get_mut(variable.0) {
-                    *equation = Some(written.offset());
-                }
-            }
-        }
-    }
-    Ok(Definitions { names, equations })
+) -> Result<Vec<Definition<'s>>, AllocError> {
+    let mut variables = Vec::new(alloc);
+    push_variables(&mut variables, node.tree)?;
+    put_equations(variables.as_mut_slice(), &node.body, &node.tree.body);
+    Ok(variables)
 }
 
 /// The variables of each node that is reached.
 fn all_definitions<'s>(
     alloc: Global,
     reached: &Reached<'s>,
-) -> Result<Vec<Definitions<'s>>, AllocError> {
+) -> Result<Vec<Vec<Definition<'s>>>, AllocError> {
     let mut all = Vec::new(alloc);
     for node in &reached.nodes {
         all.push(definitions_of(alloc, node)?)?;
@@ -136,6 +160,21 @@ impl<'a, 's> Places<'a, 's> {
         }
     }
 
+    /// The sizes of a variable under the static values of its row, the outermost last.
+    fn sizes(
+        &self,
+        specialization: &'a Specialization,
+        variable: usize,
+    ) -> Option<&'a [StaticInt]> {
+        let node = self.reached.nodes.get(specialization.node.0)?;
+        let variable = node.variables.get(variable)?;
+        Some(part_of(
+            &specialization.statics,
+            variable.first_size.0,
+            variable.sizes,
+        ))
+    }
+
     /// The variable at a place; an equation defines it, or the call of its node if it is an input.
     fn defined(&self, at: ElementPlace) -> Option<Defined<'a>> {
         let row = self.table.instances.get(at.row)?;
@@ -143,20 +182,16 @@ impl<'a, 's> Places<'a, 's> {
             .table
             .specializations
             .get(row.specialization.0 as usize)?;
-        let node = self.reached.nodes.get(specialization.node.0)?;
         let definitions = self.definitions.get(specialization.node.0)?;
-        let variable = node.variables.get(at.variable)?;
-        let offset = match definitions.equations.get(at.variable)? {
-            Some(equation) => *equation,
+        let definition = definitions.get(at.variable)?;
+        let sizes = self.sizes(specialization, at.variable)?;
+        let offset = match definition.equation {
+            Some(equation) => equation,
             None => self.call_offset(row.origin),
         };
         Some(Defined {
-            name: definitions.names.get(at.variable)?.as_str(),
-            sizes: part_of(
-                &specialization.statics,
-                variable.first_size.0,
-                variable.sizes,
-            ),
+            name: definition.name.as_str(),
+            sizes,
             offset,
         })
     }
@@ -168,16 +203,18 @@ impl<'a, 's> Places<'a, 's> {
         at: ElementPlace,
         instance: usize,
     ) -> Result<CyclePlace, AllocError> {
-        let (name, offset) = match self.defined(at) {
-            Some(found) => {
-                let name = element_name(alloc, found.name, found.sizes, at.index)?;
-                (name, found.offset)
-            }
-            None => (String::new(alloc), 0),
+        let found = match self.defined(at) {
+            Some(found) => found,
+            None => Defined {
+                name: "",
+                sizes: &[],
+                offset: 0,
+            },
         };
+        let name = element_name(alloc, found.name, found.sizes, at.index)?;
         Ok(CyclePlace {
             name,
-            offset,
+            offset: found.offset,
             instance,
         })
     }

@@ -219,7 +219,7 @@ module _ (P : Program) (r : Reached) (t : Table) (reached : IsReached P r)
       let number = number_is k (row_within k i here is) x.0 (variable_low k i here is x w) in
       let row = own_number k i here is in
       let place = own_place k i here is x w in
-      let start : get_or vars (row_number P here.path) 0 ≡ get_or vars k 0 = cc in
+      let start = ap (λ n. get_or vars n 0) row in
       let same : 2 * variable_number vars k x.0
       ≡ path_place here.path (name_in is.node x) = omega (arith, number, place, start) in
       cc
@@ -550,8 +550,8 @@ module _ (P : Program) (r : Reached) (t : Table) (reached : IsReached P r)
           let hc = own_clocks _ i here is in
           let same = node_same _ i here is in
           let row_is = own_number _ i here is in
-          let place_is : variable_place P here.path x ≡ y = cc (own_place k i here is id w) in
-          let start : get_or vars (row_number P here.path) 0 ≡ get_or vars k 0 = cc in
+          let place_is = ap (variable_place P here.path) (sym name) ∙ own_place k i here is id w in
+          let start = ap (λ n. get_or vars n 0) row_is in
           let spot : path_place here.path x + sign_place sign
           ≡ 2 * (get_or vars k 0 + y) + sign_place sign = omega (arith, place_is, start) in
           let declared : clock_in is.node (declared_in is.node id) ≡ declared_clock here.node x =

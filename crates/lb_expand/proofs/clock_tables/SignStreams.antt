@@ -96,7 +96,7 @@ module _ (P : Program) (H : History) (here : Instance) where
       streams P H here k n e ≡ H.columns here.path x
   variable_streams k n (Variable z) x v e is = cc (found_name x (variables here.node) v is)
   variable_streams k n (Group a) x v e is = variable_streams k n a x v e is
-  variable_streams k n _ x v e is = absurd cc
+  variable_streams k n _ x v e is = none_is x e
 
   grouped_streams : (k : Clock) (n : ℕ) (e : Expr) →
       streams P H here k n e ≡ streams P H here k n (ungrouped e)
@@ -179,7 +179,10 @@ module _ (P : Program) (H : History) (here : Instance) where
           H.columns c.path x ≡ H.columns here.path g.1) →
           cond b (Some (d.name, y)) (found_in (given_outputs ds xs) x) ≡ Some g →
           H.columns c.path x ≡ H.columns here.path g.1
-      by true name first later e = cc ((bytes_eq-Decides d.name x).0 name)
+      by true name first later e =
+          let value = ap (λ (u : Name × Name). u.1) (same_Some (d.name, y) g e) in
+          ap (H.columns c.path) (sym ((bytes_eq-Decides d.name x).0 name)) ∙ sym first
+          ∙ ap (H.columns here.path) value
       by false name first later e = later e
 
 -- ## A history that solves a program

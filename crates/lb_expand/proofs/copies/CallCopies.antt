@@ -25,6 +25,9 @@ use Rattle.lb_expand.proofs.widths.TypeFacts.{each, width_of, same_count, types_
 -- The copies that an instance emits: for each call in its text, copies into the inputs of its
 -- callee, and for each equation, copies into its left variables.
 
+none_is : {A : Type 0} (x : A) → None ≡ Some x → ⊥
+none_is x e = cc
+
 module _ (Y : Layout) (P : Program) (cs : List FlatEquation) where
   -- the equations `qs` are among `cs`
   abbrev pub Within : List FlatEquation → Type 0
@@ -245,7 +248,7 @@ module _ (Y : Layout) (P : Program) (here : Instance) where
   unfolding emit
   emit_variable k n s (Variable z) x d e is = cc (found_name x (variables here.node) d is)
   emit_variable k n s (Group a) x d e is = emit_variable k n s a x d e is
-  emit_variable k n s _ x d e is = absurd cc
+  emit_variable k n s _ x d e is = absurd (none_is x e)
 
   each_found :
       (k : Clock) (ks : List Clock) (n : ℕ) (s : State) (e : Expr) (es : Exprs) →
@@ -278,7 +281,7 @@ module _ (Y : Layout) (P : Program) (here : Instance) where
       data_types P here e ≡ singly (variable_type P here v)
   variable_types (Variable z) x v e is = cc
   variable_types (Group a) x v e is = variable_types a x v e is
-  variable_types _ x v e is = absurd cc
+  variable_types _ x v e is = absurd (none_is x e)
 
   singled : (o : Option DataType) (t : DataType) → singly o ≡ Some (t ∷ []) → o ≡ Some t
   singled None t e = absurd cc
@@ -383,7 +386,7 @@ module _ (Y : Layout) (P : Program) (here : Instance) where
         (Every-first (λ q. In q cs) own rest all)
         (λ later. argument_copied f ds es m z.state h.rest i.rest h.others i.others same.1 x g later
         v is (Every-second (λ q. In q cs) own rest all)) found
-    argument_copied f _ _ n s ins args p q e x g found v is w = absurd cc
+    argument_copied f _ _ n s ins args p q e x g found v is w = absurd (none_is g found)
 
     -- ## Left variables
 
@@ -475,4 +478,4 @@ module _ (Y : Layout) (P : Program) (here : Instance) where
         (Every-first (λ q. In q cs) (copied ts is) (copied us js) split)
         (λ later. result_copied ds xs h.rest i.rest wide.1 own h.others i.others same.1 x g later
         (Every-second (λ q. In q cs) (copied ts is) (copied us js) split)) found
-    result_copied _ _ outs lefts wide own p q e x g found w = absurd cc
+    result_copied _ _ outs lefts wide own p q e x g found w = absurd (none_is g found)

@@ -16,7 +16,7 @@ use Rattle.lb_flat.proofs.lists.Lists.{Every-append, Every-first, Every-second}
 use Rattle.lb_expand.proofs.copies.CopiedCalls.{AreMatched, matched-none, matched-append}
 use Rattle.lb_expand.proofs.copies.CopiedCalls.{matched-moved, matched-pairs, IsDefinedBy, IsPassed}
 use Rattle.lb_expand.proofs.copies.CopiedCalls.{ArePassed, called_by, Defines, calls_defined}
-use Rattle.lb_expand.proofs.fits.FitStatements.{one_result}
+use Rattle.lb_expand.proofs.fits.FitStatements.{no_site, one_result}
 use Rattle.lb_expand.proofs.reads.LinkTerms.{AreNumbered, IsKnown, call_linked, iterator_linked}
 use Rattle.lb_expand.proofs.reads.LinkTerms.{linked, term_before}
 use Rattle.lb_expand.proofs.reads.LinkWords.{Pairs, pairs-append, AllMeet, AreLinks, Link, either}
@@ -102,7 +102,7 @@ module _ (Y : Layout) (P : Program) (H : History)
     call_links k n s (Iterate it (Node_named f statics) m es) c p =
         iterator_linked Y P H same IsAt Under Left here wide numbered Always k n s it f statics m
         es p.0
-    call_links k n s _ c p = absurd cc
+    call_links k n s _ c p = absurd (no_site c)
 
     -- ## Left variables
 

@@ -31,6 +31,12 @@ use Rattle.lb_expand.proofs.widths.Widths.{called, placed}
 -- The left variables of an equation are copies that fit, also where its right side is a call or an
 -- iterated node with several results.
 
+pub no_site : false ≡ true → ⊥
+no_site e = cc
+
+is_a_site : true ≡ false → ⊥
+is_a_site e = cc
+
 -- ## Expressions that are no calls have one result
 
 abbrev pub IsOneOf : List DataType → Type 0
@@ -103,8 +109,8 @@ module _ (P : Program) (here : Instance) where
       let a = alone (list_type b.value) ts b.gives in (a.data_type, a.all)
   one_result (AtMostOne es) ts s e = (truth, (from_true (all_types P here es) ts e).all)
   one_result (Nor es) ts s e = let t = from_true (all_types P here es) ts e in (truth, t.all)
-  one_result (Call f statics es) ts s e = absurd cc
-  one_result (Iterate it (Node_named f statics) m es) ts s e = absurd cc
+  one_result (Call f statics es) ts s e = absurd (is_a_site s)
+  one_result (Iterate it (Node_named f statics) m es) ts s e = absurd (is_a_site s)
   one_result (Iterate it (Symbol op) m es) ts s e =
       let c = bound (static_count P here m) _ ts e in
       let o = bound (operator_types P here (Symbol op)) _ ts c.gives in
@@ -145,7 +151,7 @@ lefts_on here k (x ∷ xs) e = (
 no_call_on :
     (P : Program) (here : Node) (k : Clock) (xs : List Name) (e : Expr) → is_site e ≡ false →
     are_on_results P here k xs e ≡ true → list_all (is_clock k) (left_clocks here xs) ≡ true
-no_call_on P here k xs (Call f statics es) s h = absurd cc
+no_call_on P here k xs (Call f statics es) s h = absurd (is_a_site s)
 no_call_on P here k xs e s h = h
 
 module _ (S : Sorts) (Y : Layout) (P : Program) (here : Instance)
@@ -531,7 +537,7 @@ module _ (S : Sorts) (Y : Layout) (P : Program) (here : Instance)
         w.0.at_it.1 it a.value ts
         (ap (λ count. iterator_types it count o.value.0 o.value.1 a.value)
         (number_is P here m c.value c.is) ∙ a.gives) same (lefts_on here.node k lefts on))
-    site_results e ts is h same w on calls = absurd cc
+    site_results e ts is h same w on calls = absurd (no_site is)
 
     -- the copies of an equation, where the equations of its right side fit
     pub equation_fit :

@@ -1,5 +1,5 @@
 -- Each pass adds what serves for one variable.
-use Rattle.lb_expand.proofs.Words.{◌≡◌, ◌∷◌, ◌++◌, [], length, map, take, ap, ◌∙◌, rules}
+use Rattle.lb_expand.proofs.Words.{◌≡◌, ◌∷◌, ◌++◌, [], length, map, take, ap, ◌∙◌, arith}
 use Rattle.lb_expand.proofs.Words.{range_with_len, sources_of, serving_element}
 use Rattle.lb_expand.proofs.clock_tables.AddedClocks.{item_added, front_taken}
 use Rattle.lb_expand.proofs.clocks.push_serving.Goals as goal
@@ -10,7 +10,8 @@ loop-x-preserved c =
     let from = sources_of c.args.checked.now c.args.layout.now in
     let before = c.args.serving.now.items in
     let f = serving_element from before c.args.row.0 c.args.origin in
-    let count : c.len-before.result ≡ length c.args.serving.now.items = search rules in
+    let count : c.len-before.result ≡ length c.args.serving.now.items =
+    omega (arith, c.len-before.ensures) in
     item_added f before l.serving.items c.push.new.self.items l.x l.invariant
     (c.in_ok-push.ensures.items
     ∙ ap (λ k. l.serving.items ++ k ∷ [])

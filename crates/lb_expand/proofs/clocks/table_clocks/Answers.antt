@@ -1,5 +1,5 @@
 -- Each pass adds the clocks of one row.
-use Rattle.lb_expand.proofs.Words.{◌++◌, ◌<◌, length, ap, ◌∙◌, rules, listed, node_clocks}
+use Rattle.lb_expand.proofs.Words.{◌++◌, ◌<◌, length, ap, ◌∙◌, arith, listed, node_clocks}
 use Rattle.lb_expand.specs.TableClocks.{row_clocks}
 use Rattle.lb_expand.proofs.clock_tables.AddedClocks.{next_added}
 use Rattle.lb_static.specs.declared.table.Instance as row
@@ -13,7 +13,8 @@ loop-row-preserved c =
     let vars = c.args.layout.now.variables.items in
     let runs = c.args.runs.now in
     let serving = c.args.serving.now in
-    let lt : l.row < length c.args.table.now.instances.items = search rules in
+    let lt : l.row < length c.args.table.now.instances.items =
+    omega (arith, c.loop-row-test.true, l.auto.row-end, c.len-row-end.ensures) in
     next_added (λ j i before. row_clocks r t vars runs serving j i) t.instances.items l.row
     c.index.result.now l.clocks.items c.push_row.new.clocks.items lt l.invariant
     (c.in_ok-push_row.ensures

@@ -1,5 +1,5 @@
 -- Each pass adds the clock on which one row runs.
-use Rattle.lb_expand.proofs.Words.{◌≡◌, ◌∷◌, ◌++◌, ◌<◌, [], length, get_or, ap, ◌∙◌, subst, rules}
+use Rattle.lb_expand.proofs.Words.{◌≡◌, ◌∷◌, ◌++◌, ◌<◌, [], length, get_or, ap, ◌∙◌, subst}
 use Rattle.lb_expand.proofs.Words.{Table, sources_of, row_runs, table_runs, ◌≤◌, arith, take_all}
 use Rattle.lb_expand.proofs.clock_tables.AddedClocks.{next_added}
 use Rattle.lb_static.specs.declared.table.Instance as row
@@ -13,7 +13,8 @@ loop-row-preserved c =
     let i = c.index.result.now in
     let same : c.table-table.result.now ≡ t =
     c.table-table.ensures.value ∙ ap (λ e. e.table) c.elab.ensures.value in
-    let within : l.row < length c.table-table.result.now.instances.items = search rules in
+    let within : l.row < length c.table-table.result.now.instances.items =
+    omega (arith, c.loop-row-test.true, l.auto.row-end, c.len-row-end.ensures) in
     let lt = subst (λ (t : Table). l.row < length t.instances.items) same within in
     let is = c.index.ensures ∙ ap (λ (t : Table). get_or t.instances.items l.row i) same in
     next_added (λ j i before. row_runs from before i.origin ∷ []) t.instances.items l.row i

@@ -1,5 +1,5 @@
 -- Each pass adds what serves for the variables of one row.
-use Rattle.lb_expand.proofs.Words.{◌≡◌, ◌++◌, ◌<◌, length, get_or, ap, ◌∙◌, subst, rules, Table}
+use Rattle.lb_expand.proofs.Words.{◌≡◌, ◌++◌, ◌<◌, length, get_or, ap, ◌∙◌, subst, Table}
 use Rattle.lb_expand.proofs.Words.{sources_of, row_serving, table_serving, ◌≤◌, arith, take_all}
 use Rattle.lb_expand.proofs.clock_tables.AddedClocks.{next_added}
 use Rattle.lb_static.specs.declared.table.Instance as row
@@ -13,7 +13,8 @@ loop-row-preserved c =
     let i = c.index.result.now in
     let same : c.table-table.result.now ≡ t =
     c.table-table.ensures.value ∙ ap (λ e. e.table) c.elab.ensures.value in
-    let within : l.row < length c.table-table.result.now.instances.items = search rules in
+    let within : l.row < length c.table-table.result.now.instances.items =
+    omega (arith, c.loop-row-test.true, l.auto.row-end, c.len-row-end.ensures) in
     let lt = subst (λ (t : Table). l.row < length t.instances.items) same within in
     let is = c.index.ensures ∙ ap (λ (t : Table). get_or t.instances.items l.row i) same in
     next_added (λ j i before. row_serving from j i.origin before) t.instances.items l.row i

@@ -1,5 +1,5 @@
 -- Each pass keeps the next row under its call, unless it is a start or a row was kept there.
-use Rattle.lb_expand.proofs.Words.{◌+◌, ◌<◌, take, length, sym, subst, ◌∙◌, rules}
+use Rattle.lb_expand.proofs.Words.{◌+◌, ◌<◌, take, length, sym, subst, ◌∙◌, arith}
 use Rattle.lb_expand.proofs.children.Children.new.Goals.{in-Called+then-not-contains_key+in_ok-insert}
 use Rattle.lb_expand.proofs.children.Children.new.Goals.{in-Called+else-not-contains_key}
 use Rattle.lb_expand.proofs.children.Children.new.Goals.{in_default}
@@ -10,7 +10,8 @@ pub loop-row-preserved : goal.loop-row-preserved
 loop-row-preserved c =
     let rows = c.args.table.now.instances.items in
     let l = c.loop-row in
-    let lt : c.loop-row.row < length c.args.table.now.instances.items = search rules in
+    let lt : c.loop-row.row < length c.args.table.now.instances.items =
+    omega (arith, c.loop-row-test.true, c.loop-row.auto.row-end, c.len-row-end.ensures) in
     elim c.match-index.branch [
       | in-Called+then-not-contains_key+in_ok-insert w ↦
           subst (λ m. HasCalls m (take (l.row + 1) rows)) (sym w.rows-is)

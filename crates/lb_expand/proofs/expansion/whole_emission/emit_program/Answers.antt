@@ -1,5 +1,5 @@
-use Rattle.lb_expand.proofs.Words.{◌≡◌, ℕ, ◌++◌, Vec, Global, arith, sym, ap, ap₂, refl, ◌∙◌}
-use Rattle.lb_expand.proofs.Words.{State, bodies, Context, emit_rows, kinds_from, program_of}
+use Rattle.lb_expand.proofs.Words.{ℕ, ◌++◌, Vec, Global, arith, sym, ap, ap₂, refl, ◌∙◌}
+use Rattle.lb_expand.proofs.Words.{State, bodies, Context, emit_rows, kinds_from}
 use Rattle.lb_expand.proofs.Words.{numbers_of, flat_equations, state_of, Clock}
 use Rattle.lb_expand.proofs.emission.EmittedProgram.{clocks_later, rows_later, kinds_counted}
 use Rattle.lb_expand.proofs.emission.EmittedProgram.{whole_made}

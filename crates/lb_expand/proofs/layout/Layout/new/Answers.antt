@@ -1,6 +1,6 @@
 -- Each pass adds one row, or finds too many elements; and what is read of all rows.
 use Rattle.lb_expand.proofs.Words.{◌≡◌, ◌+◌, ◌-◌, ◌<◌, ◌≤◌, [], ◌∷◌, ◌++◌, take, get_or, length}
-use Rattle.lb_expand.proofs.Words.{flat_map, ap, ◌∙◌, subst, rules, slice_get, range_with_len}
+use Rattle.lb_expand.proofs.Words.{flat_map, ap, ◌∙◌, arith, subst, slice_get, range_with_len}
 use Rattle.lb_expand.proofs.Words.{err_from_is_err_and, listed, sum_of, widths_in, Result, Err}
 use Rattle.lb_expand.specs.declared.layout.LayoutError.TheVariants.{Large}
 use Rattle.lb_expand.proofs.numbering.StoredLayouts.{row_stored, rows_past, all_stored, starts}
@@ -29,7 +29,8 @@ pub loop-row-preserved : goal.loop-row-preserved
 loop-row-preserved c =
     let l = c.loop-row in
     let f = widths_in c.args.reached.now c.args.table.now in
-    let long : c.len.result ≡ length c.add_row.new.starts.items = search rules in
+    let long : c.len.result ≡ length c.add_row.new.starts.items =
+    omega (arith, c.len.ensures) in
     row_stored f c.deref-row-items.result.now l.row-index _ l.variables.items l.starts.items
     c.add_row.new.starts.items c.push-in-loop-row.new.self.items l.count c.in_ok-count.count
     c.loop-row-test.true l.invariant c.in_ok-count.ensures.added

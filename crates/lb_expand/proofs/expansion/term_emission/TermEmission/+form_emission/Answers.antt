@@ -1,16 +1,8 @@
 use Rattle.lb_expand.proofs.Words
-use Words.{◌≡◌, ◌<◌, ◌≤◌, ◌+◌, ◌*◌, length, arith, rules, inl, inr, Vec, Global, refl, sym, ap}
+use Words.{◌≡◌, ◌<◌, ◌≤◌, ◌+◌, ◌*◌, length, arith, Vec, Global, refl, sym, ap}
 use Words.{subst, ◌∙◌, drop_all, PlacedEmitted, next_term, row_place, emit_term, place_of, HasRoom}
 use Words.{numbers_of, state_of, emitted_of, clock_of, Clock, constant, placed}
-use denote.Param.Weighed.{at_most}
-use Rattle.lb_static.specs.declared.resolved.Term.TheViews.{sized-Group, sized-Unary, sized-Pre}
-use Rattle.lb_static.specs.declared.resolved.Term.TheViews.{sized-Current, sized-When}
-use Rattle.lb_static.specs.declared.resolved.Term.TheViews.{sized-Replicate, sized-Index}
-use Rattle.lb_static.specs.declared.resolved.Term.TheViews.{sized-Slice, sized-Binary, sized-Arrow}
-use Rattle.lb_static.specs.declared.resolved.Term.TheViews.{sized-Fby, sized-Join, sized-If}
-use Rattle.lb_static.specs.declared.resolved.Term.TheViews.{sized-Array, sized-AtMostOne, sized-Nor}
-use Rattle.lb_static.specs.declared.resolved.Term.TheViews.{sized-Call, sized-IterateNode}
-use Rattle.lb_static.specs.declared.resolved.Term.TheViews.{sized-IterateSymbol}
+use denote.Param.Weighed.{at_most, most}
 use Rattle.{lb_static.proofs.resolved.Term.TheLaws.the_size}
 use Rattle.lb_expand.proofs.emission.EmittedRooms.{same_clock}
 use Rattle.lb_expand.proofs.emission.EmittedStacks.{numbers_many}
@@ -26,6 +18,9 @@ use Rattle.lb_expand.proofs.emission.EmittedWalks.{row_word, row_done, first_roo
 use Rattle.lb_expand.proofs.emission.EmittedWalks.{third_room, term_left, list_left, left_next}
 use Rattle.lb_expand.proofs.emission.EmittedWalks.{left_size, left_above, listed_room, listed_onto}
 use Rattle.lb_expand.proofs.emission.EmittedWalks.{listed_step, listed_none}
+use Rattle.lb_expand.proofs.emission.TermSizes.{group_smaller, single_smaller, first_smaller}
+use Rattle.lb_expand.proofs.emission.TermSizes.{second_smaller, condition_smaller, then_smaller}
+use Rattle.lb_expand.proofs.emission.TermSizes.{else_smaller, row_smaller}
 use Rattle.lb_expand.proofs.emission.TermSteps.{next_grows, list_grows}
 use Rattle.lb_expand.proofs.expansion.term_emission.TermEmission.+form_emission.Goals as goal
 
@@ -93,7 +88,9 @@ pub emit-emit-requires : goal.emit-emit-requires
 emit-emit-requires g t c =
     let room = same_room _ _ refl c.deref.ensures
     (rw (group_is _ _ _ c.in-Group.is) at c.requires.room) in
-    search (rules, sized-Group)
+    let same = ap the_size c.deref.ensures in
+    let less = group_smaller c.in-Group.is in
+    λ κs h. (omega (arith, same, less, c.decreases), (h, (c.requires.clocks, (c.requires.variables, room))))
 
 pub emit-returns-in-Group-clause-emitted : goal.emit-returns-in-Group-clause-emitted
 emit-returns-in-Group-clause-emitted g t c =
@@ -113,15 +110,15 @@ pub emit-emit-requires-in-Unary : goal.emit-emit-requires-in-Unary
 emit-emit-requires-in-Unary g t c =
     let room = same_room _ _ c.next_term-in-Unary.ensures c.deref-in-Unary.ensures
     (single_room _ _ _ c.in-Unary.is c.requires.room) in
-    elim c.in-Unary.is [
-      | inl (op, is) ↦ search (rules, sized-Unary)
-      | inr (inl is) ↦ search (rules, sized-Pre)
-      | inr (inr (inl is)) ↦ search (rules, sized-Current)
-      | inr (inr (inr (inl (y, sign, is)))) ↦ search (rules, sized-When)
-      | inr (inr (inr (inr (inl (n, is))))) ↦ search (rules, sized-Replicate)
-      | inr (inr (inr (inr (inr (inl (i, is)))))) ↦ search (rules, sized-Index)
-      | inr (inr (inr (inr (inr (inr (i, j, is)))))) ↦ search (rules, sized-Slice)
-    ]
+    let same = ap the_size c.deref-in-Unary.ensures in
+    let less = single_smaller c.in-Unary.is in
+    λ κs h. (omega (arith, same, less, c.decreases), (h, (c.requires.clocks, (c.requires.variables, room))))
+
+pub emit-with_one-requires-clause-from : goal.emit-with_one-requires-clause-from
+emit-with_one-requires-clause-from g t c =
+    let more = left_size (term_left _ _ _ c.next_term-in-Unary.ensures c.deref-in-Unary.ensures
+    c.in_ok-to-in-Unary.ensures.emitted) in
+    omega (arith, numbers_many, more, c.len-from.ensures)
 
 pub emit-with_one-requires-clause-room : goal.emit-with_one-requires-clause-room
 emit-with_one-requires-clause-room g t c =
@@ -148,12 +145,9 @@ pub emit-emit-requires-in-Binary : goal.emit-emit-requires-in-Binary
 emit-emit-requires-in-Binary g t c =
     let room = same_room _ _ c.next_term-in-Binary.ensures c.deref-in-Binary.ensures
     (pair_room _ _ _ c.in-Binary.is c.requires.room).0 in
-    elim c.in-Binary.is [
-      | inl (op, is) ↦ search (rules, sized-Binary)
-      | inr (inl is) ↦ search (rules, sized-Arrow)
-      | inr (inr (inl is)) ↦ search (rules, sized-Fby)
-      | inr (inr (inr is)) ↦ search (rules, sized-Join)
-    ]
+    let same = ap the_size c.deref-in-Binary.ensures in
+    let less = first_smaller c.in-Binary.is in
+    λ κs h. (omega (arith, same, less, c.decreases), (h, (c.requires.clocks, (c.requires.variables, room))))
 
 pub emit-emit-requires-in-Binary-2 : goal.emit-emit-requires-in-Binary-2
 emit-emit-requires-in-Binary-2 g t c =
@@ -169,12 +163,21 @@ emit-emit-requires-in-Binary-2 g t c =
     ∙ sym (ap (λ (cs : Vec Clock Global). cs.items) c.in_ok-after-in-Binary.ensures.clocks) in
     let room = same_room _ _ refl c.deref-in-Binary-2.ensures
     (moved_room _ _ left (pair_room _ _ _ c.in-Binary.is c.requires.room).1) in
-    elim c.in-Binary.is [
-      | inl (op, is) ↦ search (rules, sized-Binary)
-      | inr (inl is) ↦ search (rules, sized-Arrow)
-      | inr (inr (inl is)) ↦ search (rules, sized-Fby)
-      | inr (inr (inr is)) ↦ search (rules, sized-Join)
-    ]
+    let same = ap the_size c.deref-in-Binary-2.ensures in
+    let less = second_smaller c.in-Binary.is in
+    λ κs h. (omega (arith, same, less, c.decreases), (h, (clocks, (variables, room))))
+
+pub emit-with_two-requires-clause-from : goal.emit-with_two-requires-clause-from
+emit-with_two-requires-clause-from g t c =
+    let more = left_size (term_left _ _ _ c.next_term-in-Binary.ensures c.deref-in-Binary.ensures
+    c.in_ok-after-in-Binary.ensures.emitted) in
+    omega (arith, numbers_many, more, c.len-from.ensures, c.len-middle.ensures)
+
+pub emit-with_two-requires-clause-middle : goal.emit-with_two-requires-clause-middle
+emit-with_two-requires-clause-middle g t c =
+    let more = left_size (term_left _ _ _ refl c.deref-in-Binary-2.ensures
+    c.in_ok-to-in-Binary.ensures.emitted) in
+    omega (arith, numbers_many, more, c.len-middle.ensures)
 
 pub emit-with_two-requires-clause-room : goal.emit-with_two-requires-clause-room
 emit-with_two-requires-clause-room g t c =
@@ -209,22 +212,15 @@ pub emit-emit_all-requires : goal.emit-emit_all-requires
 emit-emit_all-requires g t c =
     let room = same_list _ _ c.row_place.ensures c.deref-in-Array.ensures.value
     (row_room _ _ _ _ c.in-Array.is c.requires.room) in
-    let clocks = c.requires.clocks in
-    let variables = c.requires.variables in
-    elim c.in-Array.is [
-      | inl is ↦
-          λ κs h. (search (rules, sized-Array), (search rules, (clocks, (variables, room))))
-      | inr (inl is) ↦
-          λ κs h. (search (rules, sized-AtMostOne), (search rules, (clocks, (variables, room))))
-      | inr (inr (inl is)) ↦
-          λ κs h. (search (rules, sized-Nor), (search rules, (clocks, (variables, room))))
-      | inr (inr (inr (inl (call, is)))) ↦
-          λ κs h. (search (rules, sized-Call), (search rules, (clocks, (variables, room))))
-      | inr (inr (inr (inr (inl (it, call, is))))) ↦
-          λ κs h. (search (rules, sized-IterateNode), (search rules, (clocks, (variables, room))))
-      | inr (inr (inr (inr (inr (it, op, n, is))))) ↦
-          λ κs h. (search (rules, sized-IterateSymbol), (search rules, (clocks, (variables, room))))
-    ]
+    let same = ap (most the_size) c.deref-in-Array.ensures.value in
+    let less = row_smaller _ c.in-Array.is in
+    λ κs h. (omega (arith, same, less, c.decreases), (h, (c.requires.clocks, (c.requires.variables, room))))
+
+pub emit-with_all-requires-clause-from : goal.emit-with_all-requires-clause-from
+emit-with_all-requires-clause-from g t c =
+    let more = left_size (list_left _ _ _ c.row_place.ensures c.deref-in-Array.ensures.value
+    c.in_ok-to-in-Array.ensures.emitted) in
+    omega (arith, numbers_many, more, c.len-from.ensures)
 
 pub emit-with_all-requires-clause-variables : goal.emit-with_all-requires-clause-variables
 emit-with_all-requires-clause-variables g t c =
@@ -261,7 +257,9 @@ pub emit-emit-requires-in-If : goal.emit-emit-requires-in-If
 emit-emit-requires-in-If g t c =
     let room = same_room _ _ c.next_term-in-If.ensures c.deref-in-If.ensures
     (first_room _ _ _ c.in-If.is c.requires.room) in
-    search (rules, sized-If)
+    let same = ap the_size c.deref-in-If.ensures in
+    let less = condition_smaller c.in-If.is in
+    λ κs h. (omega (arith, same, less, c.decreases), (h, (c.requires.clocks, (c.requires.variables, room))))
 
 pub emit-emit-requires-in-If-2 : goal.emit-emit-requires-in-If-2
 emit-emit-requires-in-If-2 g t c =
@@ -276,7 +274,9 @@ emit-emit-requires-in-If-2 g t c =
     ∙ sym (ap (λ (cs : Vec Clock Global). cs.items) c.in_ok-one-in-If.ensures.clocks) in
     let room = same_room _ _ refl c.deref-in-If-2.ensures
     (moved_room _ _ left (second_room _ _ _ c.in-If.is c.requires.room)) in
-    search (rules, sized-If)
+    let same = ap the_size c.deref-in-If-2.ensures in
+    let less = then_smaller c.in-If.is in
+    λ κs h. (omega (arith, same, less, c.decreases), (h, (clocks, (variables, room))))
 
 pub emit-emit-requires-in-If-3 : goal.emit-emit-requires-in-If-3
 emit-emit-requires-in-If-3 g t c =
@@ -300,7 +300,9 @@ emit-emit-requires-in-If-3 g t c =
     (c.in_ok-two-in-If.ensures.clocks ∙ c.in_ok-one-in-If.ensures.clocks)) in
     let room = same_room _ _ refl c.deref-in-If-3.ensures
     (moved_room _ _ left (third_room _ _ _ c.in-If.is c.requires.room)) in
-    search (rules, sized-If)
+    let same = ap the_size c.deref-in-If-3.ensures in
+    let less = else_smaller c.in-If.is in
+    λ κs h. (omega (arith, same, less, c.decreases), (h, (clocks, (variables, room))))
 
 pub emit-choose-requires-clause-from : goal.emit-choose-requires-clause-from
 emit-choose-requires-clause-from g t c =
@@ -367,7 +369,7 @@ emit_all-emit-requires g t c =
     let most_of = at_most the_size terms l.term-index item c.loop-term-test.true in
     let same = ap the_size c.term-item.is in
     let smaller : 2 * the_size item + 0 < t = omega (arith, most_of, same, c.decreases) in
-    λ κs h. (smaller, (search rules, (clocks, (variables, room))))
+    λ κs h. (smaller, (h, (clocks, (variables, room))))
 
 pub emit_all-loop-term-preserved : goal.emit_all-loop-term-preserved
 emit_all-loop-term-preserved g t c =
