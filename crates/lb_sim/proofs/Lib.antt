@@ -54,3 +54,4 @@ pub mod RunningQueues
 pub mod Choosing
 mod AlikeRuns
 mod ReadElements
+mod Returned

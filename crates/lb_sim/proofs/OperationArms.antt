@@ -1,17 +1,19 @@
--- The element of one equation shows the result of its operation: an input, and a holding of the
--- kind of the element.
-use Rattle.std.proofs.Common.{◌≡◌, false, Some, List, slice_get, option_map, sym, ap, ap₂, ◌∙◌}
-use Rattle.std.proofs.Common.{subst}
+-- The element of one equation shows the result of its operation: an input, a copy, and a holding of
+-- the kind of the element.
+use Rattle.std.proofs.Common.{◌≡◌, ◌⊎◌, false, Some, List, slice_get, option_map, sym, ap, ap₂, ◌∙◌}
+use Rattle.std.proofs.Common.{subst, inl, inr}
 use Rattle.std.proofs.lemmas.Option.{slice_get-map}
 use Rattle.lb_syntax.specs.declared.tree.Kind.{Kind}
 use Rattle.lb_syntax.proofs.ListPlaces.{mapped_from}
 use Rattle.lb_flat.specs.Values.{operation_of}
+use Rattle.lb_flat.specs.declared.equation.ElementId.{ElementId}
 use Rattle.lb_flat.specs.declared.equation.InputId.{InputId}
 use Rattle.lb_flat.specs.declared.equation.Operation.{Operation}
-use Rattle.lb_flat.specs.declared.equation.Operation.TheVariants.{Input}
+use Rattle.lb_flat.specs.declared.equation.Operation.TheVariants.{Input, Copy, Sample}
 use Rattle.lb_machine.specs.Meaning.{Lane}
 use Rattle.lb_machine.specs.declared.code.Code.{Code}
 use Rattle.lb_sim.specs.Emitted.{IsHeld, IsEmitted}
+use Rattle.lb_sim.specs.States.{holding_of}
 use Rattle.lb_sim.specs.Showing.{shown, scalar_at, value_at, kind_of, value_kind}
 use Rattle.lb_sim.specs.declared.place.Value.{Value}
 use Rattle.lb_sim.specs.declared.place.Holding.{Holding}
@@ -67,3 +69,19 @@ module _ (code : Code) (places : List Place) (inputs : List Value) (constant kep
       h ≡ record { value = v; nil = record { 0 = 0 }; bad = record { 0 = 0 } }) →
       Emitted o kind h
   input_emitted o j kind h e made = by_form o (Input j) kind h e (input_form j kind h made)
+
+  pub copy_emitted :
+      (o : Operation) (a : ElementId) (x : Holding) (kind : Kind) →
+      (o ≡ Copy a) ⊎ (o ≡ Sample a) → x ≡ holding_of places a.0 → Emitted o kind x
+  copy_emitted o a x kind (inl e) is =
+      by_form o (Copy a) kind x e
+      (λ N fit read kinds. record {
+        kind_is = ap kind_of is ∙ read.0 ∙ fit;
+        shows = λ s r c. ap (scalar_at s) is;
+      })
+  copy_emitted o a x kind (inr e) is =
+      by_form o (Sample a) kind x e
+      (λ N fit read kinds. record {
+        kind_is = ap kind_of is ∙ read.0 ∙ fit;
+        shows = λ s r c. ap (scalar_at s) is;
+      })

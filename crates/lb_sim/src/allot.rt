@@ -115,14 +115,7 @@ fn first_value(preset: &mut Preset, v: Scalar, kind: Kind) -> Result<Value, Allo
             let plane = preset.plane(b)?;
             Ok(Value::Truth(plane))
         }
-        Scalar::Nil => {
-            let value = empty_value(preset, kind)?;
-            Ok(value)
-        }
-        Scalar::Bad => {
-            let value = empty_value(preset, kind)?;
-            Ok(value)
-        }
+        Scalar::Nil | Scalar::Bad => empty_value(preset, kind),
     }
 }
 
@@ -138,14 +131,10 @@ fn bad_place(preset: &mut Preset, v: Scalar, watched: bool) -> Result<PlaneId, A
         → on (slice_index preset.new.planes.items p.0) i ≡ is_bad_scalar (scalar_of v)) }
 {
     let bad = is_bad(v);
-    if bad {
-        let plane = preset.plane(true)?;
-        return Ok(plane);
-    }
-    if watched {
+    if !bad && watched {
         return Ok(FALSE_PLANE);
     }
-    let plane = preset.plane(false)?;
+    let plane = preset.plane(bad)?;
     Ok(plane)
 }
 
@@ -295,10 +284,7 @@ pub(crate) fn constant(
         preset.new.words.items kind (operation_of operation.now)) }
 {
     match operation {
-        Operation::Constant(v) => {
-            let held = held_constant(preset, first, *v, kind)?;
-            Ok(held)
-        }
+        Operation::Constant(v) => held_constant(preset, first, *v, kind),
         _ => Ok(NOTHING),
     }
 }

@@ -25,7 +25,8 @@ use std::alloc::AllocError;
 // The holding of an element.
 fn holding(places: &[Place], a: ElementId) -> Holding
     requires { a.0 < length places.now }
-    ensures { result ≡ holding_of places.now a.0 }
+    ensures holding { result ≡ holding_of places.now a.0 }
+    ensures within { (code : Code) → All (IsPlaceIn code) places.now → IsIn code result }
 {
     places[a.0 as usize].holding
 }
@@ -124,30 +125,22 @@ fn emit_any(
     match operation {
         Operation::Input(j) => Ok(input(inputs, j, kept)),
         Operation::Constant(_) => Ok(constant),
-        Operation::Copy(a) => Ok(holding(places, a)),
-        Operation::Sample(a) => Ok(holding(places, a)),
-        Operation::ApplyUnary(op, a) => {
-            let h = one_holding(code, op, holding(places, a))?;
-            Ok(h)
-        }
+        Operation::Copy(a) | Operation::Sample(a) => Ok(holding(places, a)),
+        Operation::ApplyUnary(op, a) => one_holding(code, op, holding(places, a)),
         Operation::ApplyBinary(op, a, b) => {
-            let h = two_holdings(code, op, holding(places, a), holding(places, b))?;
-            Ok(h)
+            two_holdings(code, op, holding(places, a), holding(places, b))
         }
         Operation::Choose(c, a, b) => {
             let condition = holding(places, c);
-            let h = choose(code, condition, holding(places, a), holding(places, b))?;
-            Ok(h)
+            choose(code, condition, holding(places, a), holding(places, b))
         }
         Operation::FirstThen(_, a, b) => {
-            let h = first_then(code, kept, holding(places, a), holding(places, b))?;
-            Ok(h)
+            first_then(code, kept, holding(places, a), holding(places, b))
         }
         Operation::Previous(_, _) => Ok(kept),
         Operation::Latest(_, a) => {
             let place = places[a.0 as usize];
-            let h = pick(code, place.present, place.holding, kept)?;
-            Ok(h)
+            pick(code, place.present, place.holding, kept)
         }
     }
 }

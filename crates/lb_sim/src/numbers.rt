@@ -71,8 +71,7 @@ pub(crate) fn arithmetic(
         shown (s.bits left.0 || s.bits right.0) (s.bits nil.0)
         (two_integers (operator_of op) (s.ints a.0) (s.ints b.0)))) }
 {
-    let number = two_numbers(code, op, a, b, nil, left, right)?;
-    Ok(number)
+    two_numbers(code, op, a, b, nil, left, right)
 }
 
 /// `- a`
@@ -92,6 +91,5 @@ pub(crate) fn negated(
     ensures holding { IfOk result (IsFor code.new Int_kind (λ s.
         one_scalar Negate (shown (s.bits bad.0) (s.bits nil.0) (Integer (s.ints a.0))))) }
 {
-    let number = two_numbers(code, IntOperator::Sub, ZERO, a, nil, FALSE_PLANE, bad)?;
-    Ok(number)
+    two_numbers(code, IntOperator::Sub, ZERO, a, nil, FALSE_PLANE, bad)
 }

@@ -72,10 +72,7 @@ fn integers(
         (two_integers op (s.ints a.0) (s.ints b.0))) h) }
 {
     match int_operator(op) {
-        Some(operator) => {
-            let number = arithmetic(code, operator, a, b, nil, left, right)?;
-            Ok(number)
-        }
+        Some(operator) => arithmetic(code, operator, a, b, nil, left, right),
         None => {
             let bad = code.combine(PlaneOperator::Or, left, right)?;
             let value = compared(code, op, a, b)?;
@@ -104,7 +101,7 @@ pub(crate) fn two_holdings(
 {
     let nil = code.combine(PlaneOperator::Or, a.nil, b.nil)?;
     if let (Value::Number(x), Value::Number(y)) = (a.value, b.value) {
-        return Ok(integers(code, op, x, y, nil, a.bad, b.bad)?);
+        return integers(code, op, x, y, nil, a.bad, b.bad);
     }
     let (Some(x), Some(y)) = (truth_of(a.value), truth_of(b.value)) else {
         return Ok(a);

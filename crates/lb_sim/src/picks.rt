@@ -217,8 +217,7 @@ pub(crate) fn choose(
 {
     let left = without_faults(code, a, condition.bad);
     let right = without_faults(code, b, condition.bad);
-    let chosen = choose_any(code, condition, left, right)?;
-    Ok(chosen)
+    choose_any(code, condition, left, right)
 }
 
 /// The plane of the lanes of `above` in which a place shows a sign.

@@ -56,14 +56,7 @@ fn steady_memory(
                 bad: FALSE_PLANE,
             })
         }
-        Operation::Previous(_, _) => {
-            let held = never_nil(home, clear)?;
-            Ok(held)
-        }
-        Operation::Latest(_, _) => {
-            let held = never_nil(home, clear)?;
-            Ok(held)
-        }
+        Operation::Previous(_, _) | Operation::Latest(_, _) => never_nil(home, clear),
         _ => Ok(home),
     }
 }

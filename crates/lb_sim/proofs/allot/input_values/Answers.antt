@@ -1,4 +1,4 @@
-use Rattle.std.proofs.Common.{◌<◌, ◌≤◌, length, ap, ◌∙◌, arith, rules}
+use Rattle.std.proofs.Common.{◌<◌, ◌≤◌, length, ap, ◌∙◌, arith}
 use Rattle.std.proofs.lemmas.List.{get_or_default}
 use Rattle.lb_syntax.specs.declared.tree.Kind.TheVariants.{Int as Int_kind}
 use Rattle.lb_sim.specs.declared.preset.Preset.{Preset}
@@ -10,13 +10,15 @@ use Rattle.lb_sim.proofs.allot.input_values.Goals as goal
 
 pub plane-requires : goal.plane-requires
 plane-requires c =
-    let lt : c.loop-j.j < length c.args.kinds.now = search rules in
+    let lt : c.loop-j.j < length c.args.kinds.now =
+    omega (arith, c.loop-j-test.true) in
     let few = first_truths_few c.args.kinds.now c.loop-j.j in
     omega (arith, c.loop-j.invariant.planes_are, few, lt, c.requires.few)
 
 pub word-requires : goal.word-requires
 word-requires c =
-    let lt : c.loop-j.j < length c.args.kinds.now = search rules in
+    let lt : c.loop-j.j < length c.args.kinds.now =
+    omega (arith, c.loop-j-test.true) in
     let few = first_numbers_few c.args.kinds.now c.loop-j.j in
     omega (arith, c.loop-j.invariant.words_are, few, lt, c.requires.few)
 
@@ -24,7 +26,8 @@ pub loop-j-preserved : goal.loop-j-preserved
 loop-j-preserved c =
     let kinds = c.args.kinds.now in
     let l = c.loop-j in
-    let lt : c.loop-j.j < length c.args.kinds.now = search rules in
+    let lt : c.loop-j.j < length c.args.kinds.now =
+    omega (arith, c.loop-j-test.true) in
     elim c.match-kinds-j.branch [
       | in-Bool+in_ok-plane-in-Bool+in_ok-push-in-Bool w ↦
           let made = w.in_ok-plane-in-Bool.ensures in

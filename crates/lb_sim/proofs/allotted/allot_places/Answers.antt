@@ -1,4 +1,4 @@
-use Rattle.std.proofs.Common.{◌≡◌, ◌+◌, length, ap, subst, ◌∙◌, arith, rules}
+use Rattle.std.proofs.Common.{◌≡◌, ◌+◌, length, ap, subst, ◌∙◌, arith}
 use Rattle.std.proofs.lemmas.List.{length-map}
 use Rattle.lb_flat.specs.Programs.{program_of}
 use Rattle.lb_flat.specs.Values.{equation_of}
@@ -51,9 +51,12 @@ returns c =
     let kept = c.in_ok-kept.kept.items in
     let known = c.in_ok-constants.ensures in
     let slice : c.as_slice.result.now ≡ p.inputs.items = c.as_slice.ensures.value in
-    let cw : length one.words.items ≡ c.len-constant_word.result = search rules in
-    let mp : length two.planes.items ≡ c.len-memory_plane.result = search rules in
-    let mw : length two.words.items ≡ c.len-memory_word.result = search rules in
+    let cw : length one.words.items ≡ c.len-constant_word.result =
+    omega (arith, c.len-constant_word.ensures) in
+    let mp : length two.planes.items ≡ c.len-memory_plane.result =
+    omega (arith, c.len-memory_plane.ensures) in
+    let mw : length two.words.items ≡ c.len-memory_word.result =
+    omega (arith, c.len-memory_word.ensures) in
     let planes : length one.planes.items ≡ 2 + length (truth_columns 0 p.inputs.items) =
     c.in_ok-inputs.ensures.planes ∙ ap (λ ks. 2 + length (truth_columns 0 ks)) slice in
     let words : length one.words.items ≡ 1 + length (number_columns 0 p.inputs.items) =

@@ -1,4 +1,4 @@
-use Rattle.std.proofs.Common.{◌≡◌, length, sym, subst, ◌∙◌, arith, rules}
+use Rattle.std.proofs.Common.{◌≡◌, length, sym, subst, ◌∙◌, arith}
 use Rattle.lb_flat.specs.Programs.{program_of}
 use Rattle.lb_sim.specs.Allotted.{IsAllotted}
 use Rattle.lb_sim.specs.Passing.{AreSources}
@@ -15,9 +15,9 @@ emit_all-requires-clause-allotted c =
     let held = c.args.held.now in
     let code = c.new-code.result in
     let planes : c.new-code.result.planes ≡ length c.args.known.now.preset.planes.items =
-    search rules in
+    omega (arith, c.new-code.ensures.planes, c.len-first_plane.ensures) in
     let words : c.new-code.result.words ≡ length c.args.known.now.preset.words.items =
-    search rules in
+    omega (arith, c.new-code.ensures.words, c.len-first_word.ensures) in
     subst
     (λ xs. IsAllotted f code xs c.as_slice-constants.result.now held)
     (sym c.as_slice-inputs.ensures.value)
@@ -30,9 +30,9 @@ pub emit_all-requires-clause-room : goal.emit_all-requires-clause-room
 emit_all-requires-clause-room c =
     let p = c.args.program.now in
     let planes : c.new-code.result.planes ≡ length c.args.known.now.preset.planes.items =
-    search rules in
+    omega (arith, c.new-code.ensures.planes, c.len-first_plane.ensures) in
     let words : c.new-code.result.words ≡ length c.args.known.now.preset.words.items =
-    search rules in
+    omega (arith, c.new-code.ensures.words, c.len-first_word.ensures) in
     let room = room_for_code p c.requires.bounded c.requires.in_order c.args.known.now
     c.requires.allotted in
     omega (arith, planes, words, room)
@@ -41,9 +41,9 @@ pub watched-requires-clause-room : goal.watched-requires-clause-room
 watched-requires-clause-room c =
     let p = c.args.program.now in
     let planes : c.new-code.result.planes ≡ length c.args.known.now.preset.planes.items =
-    search rules in
+    omega (arith, c.new-code.ensures.planes, c.len-first_plane.ensures) in
     let words : c.new-code.result.words ≡ length c.args.known.now.preset.words.items =
-    search rules in
+    omega (arith, c.new-code.ensures.words, c.len-first_word.ensures) in
     let room = room_for_code p c.requires.bounded c.requires.in_order c.args.known.now
     c.requires.allotted in
     omega (arith, planes, words, room, c.in_ok-places.ensures.few)
@@ -52,9 +52,9 @@ pub all_sources-requires-clause-room : goal.all_sources-requires-clause-room
 all_sources-requires-clause-room c =
     let p = c.args.program.now in
     let planes : c.new-code.result.planes ≡ length c.args.known.now.preset.planes.items =
-    search rules in
+    omega (arith, c.new-code.ensures.planes, c.len-first_plane.ensures) in
     let words : c.new-code.result.words ≡ length c.args.known.now.preset.words.items =
-    search rules in
+    omega (arith, c.new-code.ensures.words, c.len-first_word.ensures) in
     let room = room_for_code p c.requires.bounded c.requires.in_order c.args.known.now
     c.requires.allotted in
     omega (arith, planes, words, room, c.in_ok-places.ensures.few, c.in_ok-watched.ensures.few)
@@ -62,9 +62,9 @@ all_sources-requires-clause-room c =
 pub all_sources-requires-clause-held : goal.all_sources-requires-clause-held
 all_sources-requires-clause-held c =
     let planes : c.new-code.result.planes ≡ length c.args.known.now.preset.planes.items =
-    search rules in
+    omega (arith, c.new-code.ensures.planes, c.len-first_plane.ensures) in
     let words : c.new-code.result.words ≡ length c.args.known.now.preset.words.items =
-    search rules in
+    omega (arith, c.new-code.ensures.words, c.len-first_word.ensures) in
     let one = c.in_ok-places.ensures.grown in
     let two = c.in_ok-watched.ensures.grown in
     table_in (program_of c.args.program.now) c.args.known.now c.requires.allotted c.args.held.now
@@ -92,9 +92,9 @@ returns-clause-code c =
     let two = c.in_ok-watched.ensures in
     let three = c.in_ok-sources.ensures in
     let first_p : c.new-code.result.first_plane ≡ length c.args.known.now.preset.planes.items =
-    search rules in
+    omega (arith, c.new-code.ensures.first_plane, c.len-first_plane.ensures) in
     let first_w : c.new-code.result.first_word ≡ length c.args.known.now.preset.words.items =
-    search rules in
+    omega (arith, c.new-code.ensures.first_word, c.len-first_word.ensures) in
     let shown = subst
     (λ xs. ShowAll f emitted places xs known.constants.items held)
     c.as_slice-inputs.ensures.value

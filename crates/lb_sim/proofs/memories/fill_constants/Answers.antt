@@ -1,4 +1,4 @@
-use Rattle.std.proofs.Common.{◌≡◌, ◌<◌, ◌≤◌, length, sym, subst, arith, rules}
+use Rattle.std.proofs.Common.{◌≡◌, ◌<◌, ◌≤◌, length, sym, subst, arith}
 use Rattle.lb_flat.specs.Programs.{program_of}
 use Rattle.lb_flat.specs.Values.{equation_of}
 use Rattle.lb_sim.specs.Presets.{IsConstant}
@@ -13,7 +13,8 @@ loop-i-init c =
 
 pub constant-requires-clause-first : goal.constant-requires-clause-first
 constant-requires-clause-first c =
-    let from : length c.args.preset.now.words.items ≡ c.len-first.result = search rules in
+    let from : length c.args.preset.now.words.items ≡ c.len-first.result =
+    omega (arith, c.len-first.ensures) in
     omega (arith, from, c.loop-i.invariant.more.words)
 
 pub constant-requires-clause-room : goal.constant-requires-clause-room
@@ -32,7 +33,8 @@ loop-i-preserved c =
     omega (arith, c.loop-i-test.true, l.auto.i-end, c.len-i-end.ensures) in
     let made = c.in_ok-held.ensures in
     let next = c.constant.new.preset in
-    let from : length c.args.preset.now.words.items ≡ c.len-first.result = search rules in
+    let from : length c.args.preset.now.words.items ≡ c.len-first.result =
+    omega (arith, c.len-first.ensures) in
     constants_more (program_of p) c.args.preset.now l.preset l.table l.i l.invariant
     (equation_of p.clocks.items x) (equation_within p.clocks.items p.equations.items l.i lt)
     (equation_there p.clocks.items p.equations.items l.i x lt (sym c.index.ensures))

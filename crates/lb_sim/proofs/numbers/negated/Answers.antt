@@ -1,4 +1,5 @@
 use Rattle.std.proofs.Common.{arith}
+use Rattle.std.proofs.lemmas.Result.{IfOk-weaker}
 use Rattle.lb_sim.proofs.IntegerHoldings.{negated_for}
 use Rattle.lb_sim.proofs.numbers.negated.Goals as goal
 
@@ -8,5 +9,6 @@ two_numbers-requires-clause-left c =
 
 pub returns-clause-holding : goal.returns-clause-holding
 returns-clause-holding c =
-    negated_for c.two_numbers.new.code c.args.a c.args.nil c.args.bad c.in_ok-number.number
-    c.in_ok-number.ensures.holding
+    IfOk-weaker c.two_numbers.result _ _
+    (negated_for c.two_numbers.new.code c.args.a c.args.nil c.args.bad)
+    c.two_numbers.ensures.holding

@@ -1,22 +1,26 @@
 use Rattle.std.proofs.Common.{refl, ap, arith}
+use Rattle.std.proofs.lemmas.Result.{IfOk-weaker}
 use Rattle.lb_lanes.specs.declared.int_operator.IntOperator.TheVariants.{Add, Sub, Mul, Div, Rem}
 use Rattle.lb_machine.specs.declared.instruction.PlaneId.{PlaneId}
 use Rattle.lb_sim.proofs.Growth.{grown_then}
 use Rattle.lb_sim.proofs.IntegerHoldings.{integer_for}
+use Rattle.lb_sim.proofs.Returned.{few_more}
 use Rattle.lb_sim.proofs.TruthHoldings.{compared_for}
 use Rattle.lb_sim.proofs.operators.integers.Goals as goal
 
-pub returns-in_ok-number-in-Some : goal.returns-in_ok-number-in-Some
-returns-in_ok-number-in-Some c =
-    let made = c.in_ok-number-in-Some in
+pub returns-in-Some : goal.returns-in-Some
+returns-in-Some c =
+    let r = c.arithmetic.result in
+    let made = c.arithmetic.ensures in
     record {
-      grown = made.ensures.grown;
-      few = omega (arith, made.ensures.few);
-      within = made.ensures.within;
-      holding = λ kind fits.
+      grown = made.grown;
+      few = few_more r c.args.code.now c.arithmetic.new.code 2 5 (omega arith) made.few;
+      within = made.within;
+      holding = IfOk-weaker r _ _
+          (λ number is kind fits.
           integer_for c.arithmetic.new.code c.args.op c.in-Some.operator kind c.args.a c.args.b
-          c.args.nil c.args.left c.args.right made.number c.in-Some.ensures.some fits
-          made.ensures.holding;
+          c.args.nil c.args.left c.args.right number c.in-Some.ensures.some fits is)
+          made.holding;
     }
 
 pub returns-in_ok-value-in-None : goal.returns-in_ok-value-in-None

@@ -1,4 +1,4 @@
-use Rattle.std.proofs.Common.{◌≡◌, cond, length, ap, sym, ◌∙◌, rules}
+use Rattle.std.proofs.Common.{◌≡◌, cond, length, ap, sym, ◌∙◌, arith}
 use Rattle.lb_sim.proofs.FirstPlaces.{placed_on}
 use Rattle.lb_sim.proofs.preset.Preset.plane.Goals as goal
 use Rattle.lb_sim.proofs.preset.Preset.plane.Goals.{then-value, else-value}
@@ -12,6 +12,7 @@ returns-clause-value c = λ i lt.
       | else-value w ↦
           w.push-is ∙ ap (λ b. cond b 18446744073709551615 0) (sym w.if-value.false)
     ] in
-    let count : c.len-id.result ≡ length c.args.self.now.planes.items = search rules in
+    let count : c.len-id.result ≡ length c.args.self.now.planes.items =
+    omega (arith, c.len-id.ensures) in
     placed_on _ _ c.if-value.push c.len-id.result i c.args.value c.in_ok-push.ensures.items
     (sym count) lt is
