@@ -139,6 +139,15 @@ pub record Changed (elements : Elements) (names : List (List ℕ)) (numbers : Li
   pub is : IsSet elements names numbers words ends integers truths places
   pub view : stored elements names (cells_of elements numbers words ends) ends ≡ new
 
+-- a set as it is
+pub as_it_is :
+    {elements : Elements} {names : List (List ℕ)} {numbers : List ℤ}
+    {words ends integers truths places : List ℕ} {new : Recording} →
+    IsSet elements names numbers words ends integers truths places →
+    stored elements names (cells_of elements numbers words ends) ends ≡ new →
+    Changed elements names numbers words ends integers truths places new
+as_it_is is view = record { is = is; view = view }
+
 -- a set whose parts are equal to those of a set after a change
 pub changed_by :
     {elements : Elements} {names names' : List (List ℕ)} {numbers numbers' : List ℤ}

@@ -1,13 +1,14 @@
 -- The names, the integers, the words and the places have grown by one trace of one row.
 use Rattle.std.proofs.Common.{arith, ◌≡◌, ◌<◌, ◌++◌, ◌∷◌, [], length, ◌+◌, ap, ap₂, ◌∙◌, sym}
-use Rattle.std.proofs.Common.{refl, subst, is_ok, true}
+use Rattle.std.proofs.Common.{refl, subst, is_ok, true, Result, Ok, Err}
+use Rattle.std.specs.Result.{OnErr}
 use Rattle.lb_traces.specs.Traces.{Recording, with_trace}
 use Rattle.lb_traces.specs.Ledger.{last_place}
 use Rattle.lb_traces.specs.Packed.{cells_of, numbers_in, HasPushed}
 use Rattle.lb_traces.proofs.Ledgers.{read_last}
 use Rattle.lb_traces.proofs.StoredRows.{length-stored}
 use Rattle.lb_traces.proofs.Storing.{rows_fit_of}
-use Rattle.lb_traces.proofs.AddedRows.{Changed, changed_by, set_started, integers_in, truths_in, alone_in}
+use Rattle.lb_traces.proofs.AddedRows.{Changed, as_it_is, changed_by, set_started, integers_in, truths_in, alone_in}
 use Rattle.lb_traces.proofs.SixteenRows.{ints-of}
 use Rattle.lb_traces.proofs.IntegerCounts.{integers-limit}
 use Rattle.lb_traces.proofs.traces.TraceSet.start.Goals as goal
@@ -167,3 +168,51 @@ reserve_row-requires c =
           c.self.inside.columns.integers.items c.self.inside.columns.truths.items
           c.self.inside.columns.places.items c.self.invariant,
     )
+
+on_err : {X E : Type 0} (result : Result X E) (P : Type 0) → P → OnErr result P
+on_err (Ok x) P p = tt
+on_err (Err e) P p = p
+
+pub invariant_of-self : goal.invariant_of-self
+invariant_of-self c =
+    (changed_by refl c.in_err-reserve_row.ensures.items refl refl
+    (as_it_is c.self.invariant c.self.view_is)).is
+
+pub returns-in_err-reserve_row-clause-err : goal.returns-in_err-reserve_row-clause-err
+returns-in_err-reserve_row-clause-err c =
+    on_err _ _ (changed_by refl c.in_err-reserve_row.ensures.items refl refl
+    (as_it_is c.self.invariant c.self.view_is)).view
+
+pub invariant_of-self-in_err-reserve : goal.invariant_of-self-in_err-reserve
+invariant_of-self-in_err-reserve c =
+    (changed_by refl c.in_ok-reserve_row.ensures.items refl c.in_err-reserve.ensures.items
+    (as_it_is c.self.invariant c.self.view_is)).is
+
+pub returns-in_err-reserve-clause-err : goal.returns-in_err-reserve-clause-err
+returns-in_err-reserve-clause-err c =
+    on_err _ _ (changed_by refl c.in_ok-reserve_row.ensures.items refl c.in_err-reserve.ensures.items
+    (as_it_is c.self.invariant c.self.view_is)).view
+
+pub invariant_of-self-in_err-reserve-2 : goal.invariant_of-self-in_err-reserve-2
+invariant_of-self-in_err-reserve-2 c =
+    (changed_by refl c.in_ok-reserve_row.ensures.items c.in_err-reserve-2.ensures.items
+    c.in_ok-reserve.ensures.items
+    (as_it_is c.self.invariant c.self.view_is)).is
+
+pub returns-in_err-reserve-2-clause-err : goal.returns-in_err-reserve-2-clause-err
+returns-in_err-reserve-2-clause-err c =
+    on_err _ _ (changed_by refl c.in_ok-reserve_row.ensures.items c.in_err-reserve-2.ensures.items
+    c.in_ok-reserve.ensures.items
+    (as_it_is c.self.invariant c.self.view_is)).view
+
+pub invariant_of-self-in_err-push : goal.invariant_of-self-in_err-push
+invariant_of-self-in_err-push c =
+    (changed_by c.in_err-push.ensures.err c.in_ok-reserve_row.ensures.items
+    c.in_ok-reserve-2.ensures.items c.in_ok-reserve.ensures.items
+    (as_it_is c.self.invariant c.self.view_is)).is
+
+pub returns-in_err-push-clause-err : goal.returns-in_err-push-clause-err
+returns-in_err-push-clause-err c =
+    on_err _ _ (changed_by c.in_err-push.ensures.err c.in_ok-reserve_row.ensures.items
+    c.in_ok-reserve-2.ensures.items c.in_ok-reserve.ensures.items
+    (as_it_is c.self.invariant c.self.view_is)).view
