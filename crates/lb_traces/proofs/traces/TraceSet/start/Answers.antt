@@ -8,7 +8,8 @@ use Rattle.lb_traces.specs.Packed.{cells_of, numbers_in, HasPushed}
 use Rattle.lb_traces.proofs.Ledgers.{read_last}
 use Rattle.lb_traces.proofs.StoredRows.{length-stored}
 use Rattle.lb_traces.proofs.Storing.{rows_fit_of}
-use Rattle.lb_traces.proofs.AddedRows.{Changed, as_it_is, changed_by, set_started, integers_in, truths_in, alone_in}
+use Rattle.lb_traces.proofs.AddedRows.{Changed, as_it_is, changed_by, set_started}
+use Rattle.lb_traces.proofs.AddedRows.{integers_in, truths_in, alone_in}
 use Rattle.lb_traces.proofs.SixteenRows.{ints-of}
 use Rattle.lb_traces.proofs.IntegerCounts.{integers-limit}
 use Rattle.lb_traces.proofs.traces.TraceSet.start.Goals as goal
@@ -190,7 +191,8 @@ invariant_of-self-in_err-reserve c =
 
 pub returns-in_err-reserve-clause-err : goal.returns-in_err-reserve-clause-err
 returns-in_err-reserve-clause-err c =
-    on_err _ _ (changed_by refl c.in_ok-reserve_row.ensures.items refl c.in_err-reserve.ensures.items
+    on_err _ _
+    (changed_by refl c.in_ok-reserve_row.ensures.items refl c.in_err-reserve.ensures.items
     (as_it_is c.self.invariant c.self.view_is)).view
 
 pub invariant_of-self-in_err-reserve-2 : goal.invariant_of-self-in_err-reserve-2
