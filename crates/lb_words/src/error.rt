@@ -3,11 +3,13 @@
 use std::alloc::AllocError;
 
 /// The reason why words make no request.
-#[derive(Drop)]
+#[derive(Debug, Drop, thiserror::Error)]
 pub enum WordsError {
     /// Memory ran out (E0).
+    #[error("memory ran out")]
     Memory,
     /// The command line is not one that the program knows (E20).
+    #[error("the command line is not one that the program knows")]
     Unlawful,
 }
 
