@@ -100,7 +100,8 @@ pairs-lane digits j long small below =
     (omega (arith, below))
     ∙ ap (λ x. x / 256 ^ 1 % 256) (get_or-map (λ x. x * 2561 % 65536) lanes j 0 0 below
     ∙ ap (λ x. x * 2561 % 65536)
-    (wide-lane 256 65536 16 digits j refl (below-from 10 digits small 256 (omega arith)) long below))
+    (wide-lane 256 65536 16 digits j refl (below-from 10 digits small 256 (omega arith)) long
+    below))
     ∙ pair-of (get_or digits (2 * j) 0) (get_or digits (2 * j + 1) 0)
     (small (2 * j) 0 (omega (arith, below, long)))
     (small (2 * j + 1) 0 (omega (arith, below, long)))
@@ -125,8 +126,10 @@ joined-lane q n mask factor shift lanes j long below =
     let low : List ℕ = map (λ x. x * factor % q) masked in
     let high : List ℕ = map (λ x. x / 2 ^ shift) lanes in
     let size : length masked ≡ n = length-map lanes (λ x. bit_and x mask) ∙ long in
-    let less : j < length low = omega (arith, below, size, length-map masked (λ x. x * factor % q)) in
-    let wide : j < length high = omega (arith, below, long, length-map lanes (λ x. x / 2 ^ shift)) in
+    let less : j < length low =
+    omega (arith, below, size, length-map masked (λ x. x * factor % q)) in
+    let wide : j < length high =
+    omega (arith, below, long, length-map lanes (λ x. x / 2 ^ shift)) in
     ap₂ (λ xs ys. get_or (zip2 (λ a b. (a + b) % q) xs ys) j 0)
     (ap (λ l. zip2 (λ a b. a * b % q) l (replicate n factor)) (zip2_splat bit_and lanes n mask long)
     ∙ zip2_splat (λ a b. a * b % q) masked n factor size)
@@ -134,7 +137,8 @@ joined-lane q n mask factor shift lanes j long below =
     ∙ get_or-zip2 (λ a b. (a + b) % q) low high j 0 0 0 less wide
     ∙ ap₂ (λ a b. (a + b) % q)
     (get_or-map (λ x. x * factor % q) masked j 0 0 (omega (arith, below, size))
-    ∙ ap (λ x. x * factor % q) (get_or-map (λ x. bit_and x mask) lanes j 0 0 (omega (arith, below, long))))
+    ∙ ap (λ x. x * factor % q)
+    (get_or-map (λ x. bit_and x mask) lanes j 0 0 (omega (arith, below, long))))
     (get_or-map (λ x. x / 2 ^ shift) lanes j 0 0 (omega (arith, below, long)))
 
 -- ## Fours
@@ -475,7 +479,8 @@ lanes-again : (lanes : List ℕ) → length lanes ≡ 4 → Each1 (λ x. x < 429
     → digits_l 4294967296 4 (number_l 256 (digits_l 256 16 (number_l 4294967296 lanes))) ≡ lanes
 lanes-again lanes long small =
     let within : number_l 4294967296 lanes < 256 ^ 16 =
-    subst (λ k. number_l 4294967296 lanes < 4294967296 ^ k) long (number-below 4294967296 lanes small) in
+    subst (λ k. number_l 4294967296 lanes < 4294967296 ^ k) long
+    (number-below 4294967296 lanes small) in
     ap (λ x. digits_l 4294967296 4 x) (number-again 16 (number_l 4294967296 lanes) within)
     ∙ ap (λ k. digits_l 4294967296 k (number_l 4294967296 lanes)) (sym long)
     ∙ digits-again lanes small
@@ -500,7 +505,8 @@ values-are minus numbers lanes longer long size small fits each =
     get_or-map (to_z w32) lanes k 0 d (omega (arith, here, size))
     ∙ ap (to_z w32) (each k here)
     ∙ value-from (get_or minus k 0) (get_or numbers k 0) (small k 0 (omega (arith, here, long)))
-    ∙ sym (get_or-zip2 f minus numbers k 0 0 d (omega (arith, here, longer)) (omega (arith, here, long))))
+    ∙ sym (get_or-zip2 f minus numbers k 0 0 d (omega (arith, here, longer))
+    (omega (arith, here, long))))
 
 -- ## All lanes of words
 
