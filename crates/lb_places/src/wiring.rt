@@ -32,7 +32,7 @@ fn count_of(groups: &[Declarations]) -> usize {
     count
 }
 
-/// The name with a number, from 0 on, of groups of declarations, if they have so many.
+/// The name with this number, counted from 0 through the groups; none where they have fewer.
 fn name_at(groups: &[Declarations], number: usize) -> Option<&str> {
     let mut left = number;
     for group in groups {
