@@ -17,7 +17,7 @@ ROOT = os.path.dirname(os.path.dirname(os.path.dirname(os.path.abspath(__file__)
 PAGE = os.path.join(ROOT, 'docs/WRONG_BODIES.md')
 FURTHER = '''
 The gate does not plant these: `bench/wrong_bodies/run.py` does. They are mostly in functions inside
-a crate, and a promise of the layer above covers each of them.
+a crate, and a promise of the layer above covers most of them.
 '''
 
 

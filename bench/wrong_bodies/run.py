@@ -1,5 +1,5 @@
 #!/usr/bin/env python3
-"""Tries the wrong bodies of inner functions, which the gate does not plant.
+"""Tries the wrong bodies that the gate does not plant.
 
     bench/wrong_bodies/run.py [--places] [CRATE ..]
 
