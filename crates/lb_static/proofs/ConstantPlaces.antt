@@ -99,63 +99,11 @@ unfolding visited_after_all
 visit_end f order all xs i past inv =
     ap (λ l. visited_after_all order (flat_map f l)) (sym (drop_of_length-le xs past)) ∙ inv
 
--- ## Parameters
-
-among_after : (x y : Name) (names : List Name)
-    → among x (declared_after names y) ≡ (among x names || bytes_eq x y)
-among_after x y names = by (among y names) refl
-  where
-    seen : among y names ≡ true → bytes_eq x y ≡ true → among x names ≡ true
-    seen e same = ap (λ z. among z names) ((bytes_eq-Decides x y).0 same) ∙ e
-
-    absorbed : (a b : Bool) → (b ≡ true → a ≡ true) → a ≡ (a || b)
-    absorbed true b f = refl
-    absorbed false true f = let t = f refl in absurd cc
-    absorbed false false f = refl
-
-    by : (b : Bool) → among y names ≡ b
-        → among x (if b then names else names ++ y ∷ []) ≡ (among x names || bytes_eq x y)
-    by true e = absorbed (among x names) (bytes_eq x y) (seen e)
-    by false e = among_append x names (y ∷ [])
-        ∙ ap (λ b. among x names || b) (or-false (bytes_eq x y))
-
-pub parameter_more : (x : Name) (names after all : List Name) (ys : List Name) (i : ℕ) (d : Name)
-    → i < length ys → after ≡ declared_after names (get_or ys i d)
-    → (among x names || among x (drop i ys)) ≡ among x all
-    → (among x after || among x (drop (i + 1) ys)) ≡ among x all
-parameter_more x names after all ys i d below e inv =
-    ap (λ l. among x l || among x (drop (i + 1) ys)) e
-    ∙ ap (λ b. b || among x (drop (i + 1) ys)) (among_after x (get_or ys i d) names)
-    ∙ or_assoc (among x names) (bytes_eq x (get_or ys i d)) (among x (drop (i + 1) ys))
-    ∙ ap (λ l. among x names || among x l) (sym (drop_more ys i d below)) ∙ inv
-
-pub parameters_end : (x : Name) (names all : List Name) (ys : List Name) (i : ℕ) → length ys ≤ i
-    → (among x names || among x (drop i ys)) ≡ among x all → among x names ≡ among x all
-parameters_end x names all ys i past inv =
-    sym (or-false (among x names))
-    ∙ ap (λ l. among x names || among x l) (sym (drop_of_length-le ys past)) ∙ inv
-
--- `places_named` depends only on which names are hidden
-pub hidden_alike : (g : Globals) (xs ys : List Name) → ((x : Name) → among x xs ≡ among x ys)
-    → (names : List Name) → places_named g xs names ≡ places_named g ys names
-hidden_alike g xs ys same [] = refl
-hidden_alike g xs ys same (x ∷ names) =
-    ap (λ b. (if b then [] else listed (λ p. p ∷ []) (constant_place g.names g.constants x))
-    ++ places_named g xs names) (same x)
-    ∙ ap (λ l. place_named g ys x ++ l) (hidden_alike g xs ys same names)
+-- ## Answers
 
 pub ok_more : {A E : Type 0} (r : Result A E) (C D : Type 0) → OnOk r C → (C → D) → OnOk r D
 ok_more (Ok x) C D h f = f h
 ok_more (Err e) C D h f = tt
-
-pub parts_alike : (g : Globals) (xs ys : List Name) → ((x : Name) → among x xs ≡ among x ys)
-    → (parts : List StaticPart)
-    → flat_map (part_constants g xs) parts ≡ flat_map (part_constants g ys) parts
-parts_alike g xs ys same [] = refl
-parts_alike g xs ys same (p ∷ parts) =
-    ap (λ l. l ++ flat_map (part_constants g xs) parts)
-    (hidden_alike g xs ys same (static_names (static_of p.text)))
-    ∙ ap (λ l. part_constants g ys p ++ l) (parts_alike g xs ys same parts)
 
 -- ## The constant at a place
 

@@ -4,8 +4,10 @@ use Rattle.std.proofs.Common.{◌≡◌, ℕ, suc, Bool, true, false, cond, List
 use Rattle.std.proofs.Common.{map}
 use Rattle.std.proofs.Common.{Option, Some, None, is_some, option_map, refl, ap, sym, subst}
 use Rattle.std.proofs.Common.{◌∙◌, arith, rules}
-use Rattle.std.specs.Prelude.{◌&&◌, ◌||◌, slice_get, String, Result, Ok, Err, IfOk, OnOk}
-use Rattle.std.specs.BTreeMap.{BTreeMap, get_by_text}
+use Rattle.std.specs.Prelude.{◌&&◌, ◌||◌, slice_get, nat_eq, Result, Ok, Err}
+use Rattle.std.specs.Ordering.{is_eq, nat_cmp}
+use Rattle.std.specs.Prelude.{IfOk, OnOk}
+use Rattle.std.specs.BTreeMap.{BTreeMap, get}
 use Rattle.std.specs.List.{list_all, list_any}
 use Rattle.std.specs.Str.{bytes_eq}
 use Rattle.std.proofs.lemmas.Bool.Decides.{nat_tests}
@@ -84,7 +86,7 @@ held_stands ps q i e = of_key (key_of q) e
     of_place None e = absurd cc
     of_place (Some j) e = here (slice_get ps j) j refl e
 
-    of_key : (o : Option (List ℕ))
+    of_key : (o : Option ℕ)
         → (o >>= λ k. first_with (has_key k) ps >>= λ j. cond (is_held_at ps q j) (Some j) None)
         ≡ Some i → slice_get ps i ≡ Some q
     of_key None e = absurd cc
@@ -118,7 +120,7 @@ unfolding with_part
 own_added ps q e = by (letter_of q.0) e
   where
     by : (o : Option ℕ) → o ≡ None
-        → cond (is_some (option_map (λ c. ((c ∷ []) ++ static_key q.1) ++ start_key q.0) o
+        → cond (is_some (option_map (λ k. static_key k q.1) (option_map (start_key q.0) o)
         >>= λ k. first_with (has_key k) ps >>= λ i. cond (is_held_at ps q i) (Some i) None)) ps
         (ps ++ q ∷ []) ≡ ps ++ q ∷ []
     by None e = refl
@@ -238,7 +240,7 @@ first_more f (x ∷ xs) y =
     by false (Some i) c = refl
 
 -- the map of places stays right with one more static expression without a new key
-pub still_placed : {A : Type 0} (places : BTreeMap (String A) ℕ) (ps qs : List Part) (q : Part)
+pub still_placed : (places : BTreeMap ℕ ℕ) (ps qs : List Part) (q : Part)
     → ArePartsPlaced ps places → HasNoNewKey ps q → qs ≡ ps ++ q ∷ []
     → ArePartsPlaced qs places
 still_placed places ps qs q h none more k =
@@ -251,34 +253,41 @@ still_placed places ps qs q h none more k =
     by None e false g = refl
     by None e true g = let there = sym (ap is_some e) ∙ none k g in absurd cc
 
+-- the key that a look-up finds
+at_key : (key k : ℕ) → is_eq (nat_cmp key k) ≡ nat_eq k key
+at_key key k = grind (arith, nat_tests)
+
+same_key : (k key : ℕ) → nat_eq k key ≡ true → key ≡ k
+same_key k key e = grind (arith, nat_tests)
+
 -- the map of places stays right with one more static expression with a new key
-pub newly_placed : {A : Type 0} (before after : BTreeMap (String A) ℕ) (ps qs : List Part)
-    (q : Part) (key : List ℕ) (place : ℕ) → ArePartsPlaced ps before → key_of q ≡ Some key
+pub newly_placed : (before after : BTreeMap ℕ ℕ) (ps qs : List Part) (q : Part) (key place : ℕ)
+    → ArePartsPlaced ps before → key_of q ≡ Some key
     → first_with (has_key key) ps ≡ None → place ≡ length ps → qs ≡ ps ++ q ∷ []
-    → ((k : List ℕ) → get_by_text after k
-    ≡ cond (bytes_eq key k) (Some place) (get_by_text before k))
+    → ((k : ℕ) → get nat_cmp after k
+    ≡ cond (is_eq (nat_cmp key k)) (Some place) (get nat_cmp before k))
     → ArePartsPlaced qs after
 newly_placed before after ps qs q key place h is fresh last more set k =
-    set k ∙ ap (cond (bytes_eq key k) (Some place)) (h k)
-    ∙ ap (λ n. cond (bytes_eq key k) (Some n) (first_with (has_key k) ps)) last
-    ∙ by (bytes_eq key k) refl
+    set k ∙ ap (cond (is_eq (nat_cmp key k)) (Some place)) (h k)
+    ∙ ap (λ b. cond b (Some place) (first_with (has_key k) ps)) (at_key key k)
+    ∙ ap (λ n. cond (nat_eq k key) (Some n) (first_with (has_key k) ps)) last
+    ∙ by (nat_eq k key) refl
     ∙ sym (ap (first_with (has_key k)) more ∙ first_more (has_key k) ps q)
   where
-    own : has_key k q ≡ bytes_eq k key
-    own = ap (holds (bytes_eq k)) is
+    own : has_key k q ≡ nat_eq k key
+    own = ap (holds (nat_eq k)) is
 
-    by : (b : Bool) → bytes_eq key k ≡ b
+    by : (b : Bool) → nat_eq k key ≡ b
         → cond b (Some (length ps)) (first_with (has_key k) ps)
         ≡ or_else (first_with (has_key k) ps) (cond (has_key k q) (Some (length ps)) None)
     by true e =
-        let same : key ≡ k = (bytes_eq-Decides key k).0 e in
         let none : first_with (has_key k) ps ≡ None =
-        subst (λ l. first_with (has_key l) ps ≡ None) same fresh in
-        let here : has_key k q ≡ true = own ∙ bytes_eq-symmetric k key ∙ e in
+        subst (λ l. first_with (has_key l) ps ≡ None) (same_key k key e) fresh in
+        let here : has_key k q ≡ true = own ∙ e in
         sym (ap (λ o. or_else o (cond (has_key k q) (Some (length ps)) None)) none
         ∙ ap (λ b. cond b (Some (length ps)) None) here)
     by false e =
-        let apart : has_key k q ≡ false = own ∙ bytes_eq-symmetric k key ∙ e in
+        let apart : has_key k q ≡ false = own ∙ e in
         nothing (first_with (has_key k) ps)
         ∙ ap (λ b. or_else (first_with (has_key k) ps) (cond b (Some (length ps)) None))
         (sym apart)
@@ -288,7 +297,7 @@ newly_placed before after ps qs q key place h is fresh last more set k =
         nothing (Some i) = refl
 
 -- the map of places stays right after a push of one without a new key, which may fail
-pub pushed_placed : {A : Type 0} (places : BTreeMap (String A) ℕ) (ps qs : List StaticPart)
+pub pushed_placed : (places : BTreeMap ℕ ℕ) (ps qs : List StaticPart)
     (q : StaticPart) (added : Bool) → ArePartsPlaced (map part_of ps) places
     → HasNoNewKey (map part_of ps) (part_of q) → qs ≡ cond added (ps ++ q ∷ []) ps
     → ArePartsPlaced (map part_of qs) places
@@ -304,7 +313,7 @@ module _ (ps : List Part) (q : Part) where
   of_place : Option ℕ → Option ℕ
   of_place o = o >>= λ i. cond (is_held_at ps q i) (Some i) None
 
-  of_key : Option (List ℕ) → Option ℕ
+  of_key : Option ℕ → Option ℕ
   unfolding of_place
   of_key o = o >>= λ k. of_place (first_with (has_key k) ps)
 
@@ -316,18 +325,18 @@ module _ (ps : List Part) (q : Part) where
   unfolding of_place of_key
   unkeyed e = held_by ∙ ap of_key e
 
-  pub fresh_key : (k : List ℕ) → key_of q ≡ Some k → first_with (has_key k) ps ≡ None
+  pub fresh_key : (k : ℕ) → key_of q ≡ Some k → first_with (has_key k) ps ≡ None
       → held ps q ≡ None
   unfolding of_place of_key
   fresh_key k e none = held_by ∙ ap of_key e ∙ ap of_place none
 
-  pub held_there : (k : List ℕ) (i : ℕ) → key_of q ≡ Some k
+  pub held_there : (k i : ℕ) → key_of q ≡ Some k
       → first_with (has_key k) ps ≡ Some i → is_held_at ps q i ≡ true → held ps q ≡ Some i
   unfolding of_place of_key
   held_there k i e at here =
       held_by ∙ ap of_key e ∙ ap of_place at ∙ ap (λ b. cond b (Some i) None) here
 
-  pub another_there : (k : List ℕ) (i : ℕ) → key_of q ≡ Some k
+  pub another_there : (k i : ℕ) → key_of q ≡ Some k
       → first_with (has_key k) ps ≡ Some i → is_held_at ps q i ≡ false → held ps q ≡ None
   unfolding of_place of_key
   another_there k i e at here =

@@ -1,6 +1,7 @@
 pub mod Arithmetic
 pub mod StaticValues
 pub mod Instances
+pub mod InstanceFaults
 pub mod DataTypes
 pub mod Parts
 pub mod Names

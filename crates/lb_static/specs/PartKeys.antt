@@ -1,8 +1,8 @@
 -- The keys by which static expressions are found, and when two of them are equal.
 -- This file mirrors code (src/part_keys.rt); no definition of the language stands on it.
 use denote.Enum.Bare.{sameb}
-use Rattle.std.specs.Prelude.{ℕ, ◌/◌, ◌%◌, nat_eq, Bool, true, false, ◌&&◌, Option, Some, None}
-use Rattle.std.specs.Prelude.{option_map, List, [], ◌∷◌, ◌++◌}
+use Rattle.std.specs.Prelude.{ℕ, ◌+◌, ◌*◌, ◌%◌, ◌^◌, nat_eq, Bool, true, false, ◌&&◌, Option, Some}
+use Rattle.std.specs.Prelude.{None, option_map, List, [], ◌∷◌}
 use Rattle.std.specs.Str.{bytes_eq}
 use Rattle.lb_syntax.specs.Lists.{holds}
 use Rattle.lb_syntax.specs.Tree.{Name, Static, Whole, Named, Negated, Combined, Grouped}
@@ -48,11 +48,16 @@ letter_of Value = Some 118
 letter_of Dimension = None
 letter_of Argument = None
 
-abbrev pub name_key : Name → List ℕ
-name_key x = 110 ∷ x
+-- a key with one more number in it
+abbrev pub key_with : ℕ → ℕ → ℕ
+key_with key n = ((key * 6364136223846793005) % 2 ^ 64 + n) % 2 ^ 64
 
-abbrev pub number_key : ℕ → List ℕ
-number_key n = 119 ∷ (n % 128) ∷ ((n / 128) % 128) ∷ []
+abbrev pub bytes_key : ℕ → List ℕ → ℕ
+bytes_key key [] = key
+bytes_key key (b ∷ bs) = bytes_key (key_with key b) bs
+
+abbrev pub name_key : ℕ → Name → ℕ
+name_key key x = bytes_key (key_with key 110) x
 
 -- the sign of an operator of arithmetic
 abbrev pub sign_of : BinaryOperator → ℕ
@@ -63,21 +68,24 @@ sign_of Divide = 47
 sign_of Modulo = 37
 sign_of _ = 63
 
-abbrev pub static_key : Static → List ℕ
-static_key (Whole n) = number_key n
-static_key (Named x) = name_key x
-static_key (Grouped s) = 40 ∷ static_key s
-static_key (Negated s) = 45 ∷ static_key s
-static_key (Combined op s t) = sign_of op ∷ (static_key s ++ static_key t)
+abbrev pub static_key : ℕ → Static → ℕ
+static_key key (Whole n) = key_with key n
+static_key key (Named x) = name_key key x
+static_key key (Grouped s) = static_key (key_with key 40) s
+static_key key (Negated s) = static_key (key_with key 45) s
+static_key key (Combined op s t) = static_key (static_key (key_with key (sign_of op)) s) t
 
-abbrev pub start_key : Purpose → List ℕ
-start_key (SliceEnd s) = static_key s
-start_key _ = []
+-- the letter of a purpose, with the first end of a slice where it is that of a last end
+abbrev pub start_key : Purpose → ℕ → ℕ
+start_key (SliceEnd s) letter = static_key letter s
+start_key _ letter = letter
 
--- the key of a static expression, if it may be kept once; the size `a + 1` has the key `s+naw`, and
--- then the two digits of 1 to the base 128
-abbrev pub key_of : Part → Option (List ℕ)
-key_of p = option_map (λ c. ((c ∷ []) ++ static_key p.1) ++ start_key p.0) (letter_of p.0)
+abbrev pub role_key : Purpose → Option ℕ
+role_key p = option_map (start_key p) (letter_of p)
 
-abbrev pub has_key : List ℕ → Part → Bool
-has_key k p = holds (bytes_eq k) (key_of p)
+-- the key of a static expression, if it may be kept once
+abbrev pub key_of : Part → Option ℕ
+key_of p = option_map (λ key. static_key key p.1) (role_key p.0)
+
+abbrev pub has_key : ℕ → Part → Bool
+has_key k p = holds (nat_eq k) (key_of p)

@@ -1,7 +1,8 @@
 -- The static expressions of a node, where equal ones of some purposes are kept once.
 use Rattle.std.specs.Prelude.{◌≡◌, ℕ, suc, Bool, true, cond, Option, Some, None, option_map}
-use Rattle.std.specs.Prelude.{is_some, List, [], ◌∷◌, ◌++◌, map, length, slice_get, String}
-use Rattle.std.specs.BTreeMap.{BTreeMap, get_by_text}
+use Rattle.std.specs.Prelude.{is_some, List, [], ◌∷◌, ◌++◌, map, length, slice_get}
+use Rattle.std.specs.Ordering.{nat_cmp}
+use Rattle.std.specs.BTreeMap.{BTreeMap, get}
 use Rattle.lb_syntax.specs.Lists.{◌>>=◌, either_or, holds}
 use Rattle.lb_static.specs.PartKeys.{key_of, has_key, is_same_part}
 use Rattle.lb_static.specs.StaticParts.{Part, part_of}
@@ -39,10 +40,10 @@ abbrev pub with_static : List StaticPart → StaticPart → List StaticPart
 with_static ps q = cond (is_some (held (map part_of ps) (part_of q))) ps (ps ++ q ∷ [])
 
 -- a map has the first place of each key
-abbrev pub ArePartsPlaced : {A : Type 0} → List Part → BTreeMap (String A) ℕ → Type 0
-ArePartsPlaced ps places = (k : List ℕ) → get_by_text places k ≡ first_with (has_key k) ps
+abbrev pub ArePartsPlaced : List Part → BTreeMap ℕ ℕ → Type 0
+ArePartsPlaced ps places = (k : ℕ) → get nat_cmp places k ≡ first_with (has_key k) ps
 
 -- each key of `q` is the key of a static expression in `ps`
 abbrev pub HasNoNewKey : List Part → Part → Type 0
 HasNoNewKey ps q =
-    (k : List ℕ) → has_key k q ≡ true → is_some (first_with (has_key k) ps) ≡ true
+    (k : ℕ) → has_key k q ≡ true → is_some (first_with (has_key k) ps) ≡ true

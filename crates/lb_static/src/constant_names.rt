@@ -23,16 +23,27 @@ use crate::error::StaticError;
 use crate::globals::Globals;
 use crate::name_faults::unknown_name;
 use crate::resolved::{ResolvedNode, StaticPart, StaticText};
-use crate::scope::Scope;
 use crate::work_list::WorkList;
 use lb_syntax::{Name, Source, Static};
 use std::alloc::{AllocError, Global};
+
+/// Whether a name is one of these.
+fn is_among(name: &Name, names: &[Name]) -> bool
+    ensures { result ≡ among name.now names.now }
+{
+    for other in names {
+        if name.as_str() == other.as_str() {
+            return true;
+        }
+    }
+    false
+}
 
 /// Visits the constant with this name, if there is one and the name is not hidden.
 fn visit_name(
     name: &Name,
     globals: &Globals,
-    hidden: &Scope,
+    hidden: &[Name],
     work_list: &mut WorkList,
 ) -> Result<(), AllocError>
     requires { work_list.old.count ≡ globals.now.constants }
@@ -40,7 +51,7 @@ fn visit_name(
         ≡ visited_after_all work_list.old.order (place_named globals.now hidden.now name.now)) }
     ensures count { OnOk result (work_list.new.count ≡ work_list.old.count) }
 {
-    if hidden.place(name.as_str()).is_some() {
+    if is_among(name, hidden) {
         return Ok(());
     }
     if let Some(place) = globals.constant_place(name.as_str()) {
@@ -53,7 +64,7 @@ fn visit_name(
 fn visit_names(
     expression: &Static,
     globals: &Globals,
-    hidden: &Scope,
+    hidden: &[Name],
     work_list: &mut WorkList,
 ) -> Result<(), AllocError>
     requires { work_list.old.count ≡ globals.now.constants }
@@ -94,22 +105,11 @@ fn first_unknown<'s>(expression: &'s Static, globals: &Globals) -> Option<&'s Na
     }
 }
 
-/// The names of the static parameters of a node.
-fn parameters_of(alloc: Global, parameters: &[Name]) -> Result<Scope, AllocError>
-    ensures { IfOk result (λ names. (x : TreeName) → among x names ≡ among x parameters.now) }
-{
-    let mut names = Scope::new(alloc);
-    for parameter in parameters {
-        names.declare(alloc, parameter.as_str())?;
-    }
-    Ok(names)
-}
-
 /// Visits the constants that some static expressions name, except by hidden names.
 fn visit_parts(
     parts: &[StaticPart],
     globals: &Globals,
-    hidden: &Scope,
+    hidden: &[Name],
     work_list: &mut WorkList,
 ) -> Result<(), AllocError>
     requires { work_list.old.count ≡ globals.now.constants }
@@ -126,25 +126,8 @@ fn visit_parts(
     Ok(())
 }
 
-/// Visits the constants that a node names.
-fn visit_node(
-    alloc: Global,
-    node: &ResolvedNode,
-    globals: &Globals,
-    work_list: &mut WorkList,
-) -> Result<(), AllocError>
-    requires { work_list.old.count ≡ globals.now.constants }
-    ensures order { OnOk result (work_list.new.order
-        ≡ visited_after_all work_list.old.order (node_constants globals.now node.now)) }
-    ensures count { OnOk result (work_list.new.count ≡ work_list.old.count) }
-{
-    let hidden = parameters_of(alloc, &node.tree.parameters)?;
-    visit_parts(&node.statics, globals, &hidden, work_list)
-}
-
-/// Visits the constants that some nodes name.
+/// Visits the constants that some nodes name. The static parameters of a node hide constants.
 fn visit_nodes(
-    alloc: Global,
     nodes: &[ResolvedNode],
     globals: &Globals,
     work_list: &mut WorkList,
@@ -155,7 +138,7 @@ fn visit_nodes(
     ensures count { OnOk result (work_list.new.count ≡ work_list.old.count) }
 {
     for node in nodes {
-        visit_node(alloc, node, globals, work_list)?;
+        visit_parts(&node.statics, globals, &node.tree.parameters, work_list)?;
     }
     Ok(())
 }
@@ -166,10 +149,8 @@ fn check_visited(
     alloc: Global,
     globals: &Globals,
     source: &Source,
-    nothing: &Scope,
     work_list: &mut WorkList,
 ) -> Result<(), StaticError>
-    requires nothing { nothing.now ≡ [] }
     requires names { globals.now.names ≡ names_in_source (view_source source.now) }
     requires constants { globals.now.constants ≡ length source.now.constants.items }
     requires once { are_distinct (names_in_source (view_source source.now)) ≡ true }
@@ -187,7 +168,7 @@ fn check_visited(
         if let Some(name) = first_unknown(value, globals) {
             return Err(unknown_name(alloc, name, Sought::Constant, None));
         }
-        visit_names(value, globals, nothing, work_list)?;
+        visit_names(value, globals, &[], work_list)?;
         done += 1;
     }
     Ok(())
@@ -215,9 +196,8 @@ fn check_named(
     ensures err { IfErr result (λ e.
         IsNameFault e (told_constants_of e (view_source source.now) nodes.now)) }
 {
-    visit_nodes(alloc, nodes, globals, work_list)?;
-    let nothing = Scope::new(alloc);
-    check_visited(alloc, globals, source, &nothing, work_list)
+    visit_nodes(nodes, globals, work_list)?;
+    check_visited(alloc, globals, source, work_list)
 }
 
 /// Judges the constants that reached nodes name, and those that these name in turn. An unknown name

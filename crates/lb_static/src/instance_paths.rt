@@ -1,6 +1,7 @@
 //! Paths to instances: the calls that lead to an instance.
 
 use crate::causes::{CallPath, CallStep, Start};
+use crate::fault_texts::copy_of;
 use crate::reachable::{NodeId, Reached};
 use crate::resolved::{CallId, CallSite};
 use crate::table::{Instance, Origin};
@@ -22,11 +23,11 @@ fn called_site<'r>(reached: &'r Reached, node: NodeId, call: CallId) -> Option<&
     }
 }
 
-/// The name of a reached node.
-fn name_of(alloc: Global, reached: &Reached, node: NodeId) -> Result<String, AllocError> {
+/// The name of a reached node. Where memory is refused it is empty, and `is_refused` is set.
+fn name_of(alloc: Global, reached: &Reached, node: NodeId, is_refused: &mut bool) -> String {
     match reached.nodes.get(node.0) {
-        Some(node) => String::from_str(alloc, node.tree.name.as_str()),
-        None => Ok(String::new(alloc)),
+        Some(node) => copy_of(alloc, node.tree.name.as_str(), is_refused),
+        None => String::new(alloc),
     }
 }
 
@@ -37,14 +38,15 @@ fn start_path(
     reached: &Reached,
     origin: Origin,
     path: &mut CallPath,
-) -> Result<NodeId, AllocError> {
+    is_refused: &mut bool,
+) -> NodeId {
     let (start, node) = match (origin, reached.observer) {
         (Origin::Observer, Some(observer)) => (Start::Observer, observer),
         _ => (Start::UnderTest, reached.root),
     };
     path.start = start;
-    path.node = name_of(alloc, reached, node)?;
-    Ok(node)
+    path.node = name_of(alloc, reached, node, is_refused);
+    node
 }
 
 /// Makes an empty path lead to the instance with this origin, whose callers are among `instances`,
@@ -55,30 +57,59 @@ fn lead(
     instances: &[Instance],
     origin: Origin,
     path: &mut CallPath,
-) -> Result<NodeId, AllocError> {
+    is_refused: &mut bool,
+) -> NodeId {
     let Origin::Called {
         caller,
         call,
         index,
     } = origin
     else {
-        return start_path(alloc, reached, origin, path);
+        return start_path(alloc, reached, origin, path, is_refused);
     };
     let place = caller.0 as usize;
     let Some(instance) = instances.get(place) else {
-        return start_path(alloc, reached, origin, path);
+        return start_path(alloc, reached, origin, path, is_refused);
     };
-    let above = lead(alloc, reached, &instances[..place], instance.origin, path)?;
+    let above = lead(
+        alloc,
+        reached,
+        &instances[..place],
+        instance.origin,
+        path,
+        is_refused,
+    );
     let Some(site) = called_site(reached, above, call) else {
-        return Ok(above);
+        return above;
     };
     let node = reached.called(site).unwrap_or(above);
-    path.steps.push(CallStep {
-        node: name_of(alloc, reached, node)?,
+    let step = CallStep {
+        node: name_of(alloc, reached, node, is_refused),
         offset: site.offset,
         index: site.count.and(Some(index)),
-    })?;
-    Ok(node)
+    };
+    if path.steps.push(step).is_err() {
+        *is_refused = true;
+    }
+    node
+}
+
+/// The path to the instance at a place. Where memory is refused, `is_refused` is set.
+pub fn path_to(alloc: Global, place: &InstancePlace, is_refused: &mut bool) -> CallPath {
+    let mut path = CallPath {
+        start: Start::UnderTest,
+        node: String::new(alloc),
+        steps: Vec::new(alloc),
+    };
+    lead(
+        alloc,
+        place.reached,
+        place.instances,
+        place.origin,
+        &mut path,
+        is_refused,
+    );
+    path
 }
 
 /// The path to the instance with this origin, whose callers are among `instances`.
@@ -88,11 +119,16 @@ pub fn call_path(
     instances: &[Instance],
     origin: Origin,
 ) -> Result<CallPath, AllocError> {
-    let mut path = CallPath {
-        start: Start::UnderTest,
-        node: String::new(alloc),
-        steps: Vec::new(alloc),
+    let place = InstancePlace {
+        reached,
+        instances,
+        origin,
     };
-    lead(alloc, reached, instances, origin, &mut path)?;
-    Ok(path)
+    let mut is_refused = false;
+    let path = path_to(alloc, &place, &mut is_refused);
+    if is_refused {
+        Err(AllocError)
+    } else {
+        Ok(path)
+    }
 }

@@ -24,6 +24,7 @@ ghost use Rattle.lb_static.specs.LinkedSpecializations.{AreCalled, AreLinked, Ar
 ghost use Rattle.lb_static.specs.Instantiation.{level, instantiation_refusal, instance_refusal};
 ghost use Rattle.lb_static.specs.Instantiated.{AreSound, IsInstantiable, IsBegun, IsKnownWith};
 ghost use Rattle.lb_static.specs.Instantiated.{IsJudged, AreJudged, IsKnown, HasGrown, IsRefusal};
+ghost use Rattle.lb_static.specs.InstanceFaults.{IsLimitFault};
 ghost use Rattle.lb_static.specs.Instantiated.{AreEntered, values_at, times_of};
 ghost use Rattle.lb_static.specs.Instantiated.{IsInstantiationAnswer};
 ghost use Rattle.lb_static.specs.InstanceRows.{HasUsed, HasRows, IsSpecializedRow, IsOneMore};
@@ -33,7 +34,7 @@ ghost use Rattle.lb_static.specs.declared.resolved.ResolvedNode.{ResolvedNode};
 use crate::causes::{Limit, LimitFault};
 use crate::constants::Constants;
 use crate::error::StaticError;
-use crate::instance_paths::{InstancePlace, call_path};
+use crate::instance_paths::{InstancePlace, path_to};
 use crate::instance_values::InstanceValues;
 use crate::reachable::{NodeId, Reached};
 use crate::resolved::{CallId, CallSite};
@@ -41,7 +42,7 @@ use crate::specializations::Specializations;
 use crate::specialize::{size_of, specialize};
 use crate::static_value::StaticInt;
 use crate::table::{Instance, InstanceId, Origin, Specialization, SpecializationId, Table};
-use std::alloc::{AllocError, Global};
+use std::alloc::Global;
 
 /// The most instances that a program may have.
 const MOST_INSTANCES: usize = 4096;
@@ -152,20 +153,21 @@ fn begun_from(
     })
 }
 
-/// The fault of an instance that is past a limit, where `instances` were entered before it.
-fn limit_fault(
-    alloc: Global,
-    reached: &Reached,
-    instances: &[Instance],
-    origin: Origin,
-) -> Result<Box<LimitFault>, AllocError> {
-    let limit = if instances.len() >= MOST_INSTANCES {
+/// The error for an instance that is past a limit, where `place.instances` were entered before it.
+fn limit_fault(alloc: Global, place: &InstancePlace) -> StaticError
+    ensures { IsLimitFault result }
+{
+    let limit = if place.instances.len() >= MOST_INSTANCES {
         Limit::Instances
     } else {
         Limit::Levels
     };
-    let path = call_path(alloc, reached, instances, origin)?;
-    Ok(Box::new(alloc, LimitFault { limit, path })?)
+    let mut is_refused = false;
+    let path = path_to(alloc, place, &mut is_refused);
+    match Box::new(alloc, LimitFault { limit, path }) {
+        Ok(fault) if !is_refused => StaticError::Instances(fault),
+        _ => StaticError::Memory,
+    }
 }
 
 /// Enters an instance; its calls and its specialization are left to be entered.
@@ -200,8 +202,12 @@ fn begin(
         result }
 {
     if entered.instances.len() >= MOST_INSTANCES || entry.level > MOST_LEVELS {
-        let fault = limit_fault(alloc, reached, &entered.instances, entry.origin)?;
-        return Err(StaticError::Instances(fault));
+        let place = InstancePlace {
+            reached,
+            instances: &entered.instances,
+            origin: entry.origin,
+        };
+        return Err(limit_fault(alloc, &place));
     }
     entered.instances.push(Instance {
         specialization: SpecializationId(0),

@@ -12,6 +12,7 @@ mod elab;
 mod elaboration;
 mod element_names;
 mod error;
+mod fault_texts;
 mod globals;
 mod instance_paths;
 mod instance_values;

@@ -2,15 +2,15 @@
 //!
 //! Nothing here runs before the refusal is certain. Where memory is refused, the error is `Memory`.
 
-ghost use Rattle.std.specs.Prelude.{◌≡◌, string_bytes, IfOk};
 ghost use Rattle.lb_static.specs.CountedNames.{Calls, Declares, use_of};
 ghost use Rattle.lb_static.specs.NameFaults.{TellsName, TellsRule};
 
 use crate::causes::{NameFault, NameRule, Sought};
 use crate::error::StaticError;
+use crate::fault_texts::copy_of;
 use crate::scope::Scope;
 use lb_syntax::{Name, Node, Source};
-use std::alloc::{AllocError, Global};
+use std::alloc::Global;
 
 /// The scope of a declared name that has to be new there.
 #[derive(Clone, Copy)]
@@ -28,39 +28,24 @@ struct Standing<'a> {
     node: Option<&'a Node>,
 }
 
-/// A name that breaks a rule, in a box.
-fn boxed_fault(
-    alloc: Global,
-    name: &str,
-    rule: NameRule,
-    standing: Standing,
-) -> Result<Box<NameFault>, AllocError>
-    ensures name { IfOk result (λ fault. string_bytes fault.value.name ≡ name.now) }
-    ensures broken { IfOk result (λ fault. fault.value.rule ≡ rule) }
-{
-    let name = String::from_str(alloc, name)?;
-    let node = match standing.node {
-        Some(node) => Some(String::from_str(alloc, node.name.as_str())?),
-        None => None,
-    };
-    Ok(Box::new(
-        alloc,
-        NameFault {
-            name,
-            rule,
-            offset: standing.offset,
-            node,
-        },
-    )?)
-}
-
 /// The error for a name that breaks a rule.
 fn name_fault(alloc: Global, name: &str, rule: NameRule, standing: Standing) -> StaticError
     ensures { TellsRule name.now rule result }
 {
-    match boxed_fault(alloc, name, rule, standing) {
-        Ok(fault) => StaticError::Name(fault),
-        Err(_) => StaticError::Memory,
+    let mut is_refused = false;
+    let node = match standing.node {
+        Some(node) => Some(copy_of(alloc, node.name.as_str(), &mut is_refused)),
+        None => None,
+    };
+    let fault = NameFault {
+        name: copy_of(alloc, name, &mut is_refused),
+        rule,
+        offset: standing.offset,
+        node,
+    };
+    match Box::new(alloc, fault) {
+        Ok(fault) if !is_refused => StaticError::Name(fault),
+        _ => StaticError::Memory,
     }
 }
 

@@ -71,17 +71,13 @@ impl<'a, 's> NodeBuilder<'a, 's> {
 
     /// Keeps a static expression and returns its number: that of an equal one, if equal ones are
     /// kept once, or else the next number.
-    pub fn push_static(
-        &mut self,
-        alloc: Global,
-        part: StaticPart<'s>,
-    ) -> Result<StaticId, StaticError>
+    pub fn push_static(&mut self, part: StaticPart<'s>) -> Result<StaticId, StaticError>
         ensures after { IfOk result (λ _.
             progress self.new ≡ grown (progress self.old) (part_of part.entry ∷ []) []) }
         ensures stands { IfOk result (StaticStands (progress self.new) (static_of part.entry.text)) }
         ensures err { IfErr result (λ e. IsNameFault e true) }
     {
-        Ok(self.statics.push(alloc, part)?)
+        Ok(self.statics.push(part)?)
     }
 
     /// Adds a call and returns its number.

@@ -1,19 +1,23 @@
 //! The keys by which static expressions are found, and when two of them are equal.
+//!
+//! A key is a number that stands for a static expression, with its role. Equal ones have the same
+//! key; others may have it too.
 
-ghost use Rattle.std.specs.Prelude.{◌≡◌, ◌++◌, ◌∷◌, [], ◌+◌, ◌<◌, ◌%◌, ◌/◌, OnOk, IfOk, option_map};
-ghost use Rattle.std.specs.Prelude.{string_bytes};
+ghost use Rattle.std.specs.Prelude.{◌≡◌};
 ghost use Rattle.lb_syntax.specs.Tree as tree;
 ghost use Rattle.lb_syntax.specs.View.{view_static};
 ghost use Rattle.lb_static.specs.PartKeys.{is_same_static, is_same_purpose, is_same_part};
-ghost use Rattle.lb_static.specs.PartKeys.{letter_of, number_key, name_key, sign_of, static_key};
-ghost use Rattle.lb_static.specs.PartKeys.{start_key, key_of};
+ghost use Rattle.lb_static.specs.PartKeys.{key_with, name_key, role_key, sign_of, static_key};
+ghost use Rattle.lb_static.specs.PartKeys.{key_of};
 ghost use Rattle.lb_static.specs.StaticParts.{part_of};
 ghost use Rattle.lb_static.specs.ResolvedTerms.{static_of};
 ghost use Rattle.lb_static.specs.StaticParts.{purpose_of};
 
 use crate::resolved::{Role, StaticPart, StaticText};
 use lb_syntax::{BinaryOperator, Name, Static};
-use std::alloc::{AllocError, Global};
+
+/// The factor of a key that gets one more number: large and odd, so that few keys fall together.
+const FACTOR: u64 = 6_364_136_223_846_793_005;
 
 /// Whether two static expressions are written alike.
 fn is_same_static(one: &Static, other: &Static) -> bool
@@ -79,109 +83,84 @@ pub fn is_same_part(one: StaticPart, other: StaticPart) -> bool
     is_same_role(one.role, other.role) && is_same_text(one.text, other.text)
 }
 
-/// The letter of a role whose static expressions are kept once; none for other roles.
-fn letter_of(role: Role) -> Option<char>
-    ensures { result ≡ letter_of (purpose_of role.entry) }
+/// A key with one more number in it.
+fn key_with(key: u64, number: u64) -> u64
+    ensures { result ≡ key_with key number }
+{
+    key.wrapping_mul(FACTOR).wrapping_add(number)
+}
+
+/// A key with a name in it: the letter `n`, and then the bytes of the name.
+fn name_key(key: u64, name: &Name) -> u64
+    ensures { result ≡ name_key key name.now }
+{
+    let mut longer = key_with(key, 110);
+    let bytes = name.as_str().as_bytes();
+    for byte in bytes {
+        longer = key_with(longer, u64::from(*byte));
+    }
+    longer
+}
+
+/// The sign of an operator of arithmetic.
+fn sign_of(op: BinaryOperator) -> u64
+    ensures { result ≡ sign_of op }
+{
+    match op {
+        BinaryOperator::Plus => 43,
+        BinaryOperator::Minus => 45,
+        BinaryOperator::Times => 42,
+        BinaryOperator::Divide => 47,
+        BinaryOperator::Modulo => 37,
+        _ => 63,
+    }
+}
+
+/// A key with a static expression in it, each operator before its operands.
+fn static_key(key: u64, text: &Static) -> u64
+    ensures { result ≡ static_key key (view_static text.now) }
+{
+    match text {
+        Static::Whole(number, _) => key_with(key, u64::from(*number)),
+        Static::Named(name) => name_key(key, name),
+        Static::Grouped(inner, _) => static_key(key_with(key, 40), inner),
+        Static::Negated(inner, _) => static_key(key_with(key, 45), inner),
+        Static::Combined(op, left, right, _) => {
+            let longer = static_key(key_with(key, sign_of(*op)), left);
+            static_key(longer, right)
+        }
+    }
+}
+
+/// A key with a static expression in it, as it is written or a name.
+fn text_key(key: u64, text: StaticText) -> u64
+    ensures { result ≡ static_key key (static_of text.entry) }
+{
+    match text {
+        StaticText::Written(text) => static_key(key, text),
+        StaticText::Named(name) => name_key(key, name),
+    }
+}
+
+/// The key of a role whose static expressions are kept once, with the first end of a slice where
+/// the role is that of a last end; none for other roles.
+fn role_key(role: Role) -> Option<u64>
+    ensures { result ≡ role_key (purpose_of role.entry) }
 {
     match role {
-        Role::Size => Some('s'),
-        Role::Index => Some('i'),
-        Role::SliceStart => Some('a'),
-        Role::SliceEnd(_) => Some('e'),
-        Role::Value => Some('v'),
+        Role::Size => Some(115),
+        Role::Index => Some(105),
+        Role::SliceStart => Some(97),
+        Role::SliceEnd(start) => Some(static_key(101, start)),
+        Role::Value => Some(118),
         Role::Dimension | Role::Argument => None,
     }
 }
 
-/// Adds a name to a key.
-fn push_name(key: &mut String, name: &Name) -> Result<(), AllocError>
-    ensures { OnOk result (string_bytes key.new ≡ string_bytes key.old ++ name_key name.now) }
+/// The key of a static expression, if it may be kept once.
+pub fn key_of(part: StaticPart) -> Option<u64>
+    ensures { result ≡ key_of (part_of part.entry) }
 {
-    key.push('n')?;
-    key.push_str(name.as_str())
-}
-
-/// Adds a number to a key, by two characters; 16,384 and all above share those of a smaller number.
-fn push_number(key: &mut String, number: u32) -> Result<(), AllocError>
-    ensures { OnOk result (string_bytes key.new ≡ string_bytes key.old ++ number_key number) }
-{
-    key.push('w')?;
-    key.push((number % 128) as u8 as char)?;
-    key.push((number / 128 % 128) as u8 as char)
-}
-
-/// The sign of an operator of arithmetic.
-fn sign_of(op: BinaryOperator) -> char
-    ensures value { result ≡ sign_of op }
-    ensures ascii { result < 128 }
-{
-    match op {
-        BinaryOperator::Plus => '+',
-        BinaryOperator::Minus => '-',
-        BinaryOperator::Times => '*',
-        BinaryOperator::Divide => '/',
-        BinaryOperator::Modulo => '%',
-        _ => '?',
-    }
-}
-
-/// Adds a static expression to a key, each operator before its operands.
-fn push_static(key: &mut String, text: &Static) -> Result<(), AllocError>
-    ensures { OnOk result
-        (string_bytes key.new ≡ string_bytes key.old ++ static_key (view_static text.now)) }
-{
-    match text {
-        Static::Whole(number, _) => push_number(key, *number),
-        Static::Named(name) => push_name(key, name),
-        Static::Grouped(inner, _) => {
-            key.push('(')?;
-            push_static(key, inner)
-        }
-        Static::Negated(inner, _) => {
-            key.push('-')?;
-            push_static(key, inner)
-        }
-        Static::Combined(op, left, right, _) => {
-            key.push(sign_of(*op))?;
-            push_static(key, left)?;
-            push_static(key, right)
-        }
-    }
-}
-
-/// Adds a static expression, as it is written or a name, to a key.
-fn push_text(key: &mut String, text: StaticText) -> Result<(), AllocError>
-    ensures { OnOk result
-        (string_bytes key.new ≡ string_bytes key.old ++ static_key (static_of text.entry)) }
-{
-    match text {
-        StaticText::Written(text) => push_static(key, text),
-        StaticText::Named(name) => push_name(key, name),
-    }
-}
-
-/// Adds the first end of a slice to a key, where `role` is that of its last end; else adds nothing.
-fn push_start(key: &mut String, role: Role) -> Result<(), AllocError>
-    ensures { OnOk result
-        (string_bytes key.new ≡ string_bytes key.old ++ start_key (purpose_of role.entry)) }
-{
-    match role {
-        Role::SliceEnd(start) => push_static(key, start),
-        _ => Ok(()),
-    }
-}
-
-/// The key of a static expression, if it may be kept once. Equal ones have the same key; others may
-/// have it too. Example: the size `a + 1` has the key `s+naw` and then the two characters of 1.
-pub fn key_of(alloc: Global, part: StaticPart) -> Result<Option<String>, AllocError>
-    ensures { IfOk result (λ key. option_map string_bytes key ≡ key_of (part_of part.entry)) }
-{
-    let Some(letter) = letter_of(part.role) else {
-        return Ok(None);
-    };
-    let mut key = String::new(alloc);
-    key.push(letter)?;
-    push_text(&mut key, part.text)?;
-    push_start(&mut key, part.role)?;
-    Ok(Some(key))
+    let key = role_key(part.role)?;
+    Some(text_key(key, part.text))
 }

@@ -2,8 +2,12 @@
 //!
 //! Nothing here runs before the refusal is certain.
 
+ghost use Rattle.lb_static.specs.InstanceFaults.{IsRangeFault};
+
 use crate::causes::{RangeFault, RangeRole};
-use crate::instance_paths::{InstancePlace, call_path};
+use crate::error::StaticError;
+use crate::fault_texts::copy_of;
+use crate::instance_paths::{InstancePlace, path_to};
 use crate::instance_values::InstanceValues;
 use crate::name_faults::declared_name;
 use crate::resolved::{ResolvedNode, Role, StaticPart, StaticText};
@@ -11,7 +15,7 @@ use crate::slices::part_of;
 use crate::specialize::{LONGEST, WIDEST, size_of};
 use crate::static_value::{StaticInt, static_value};
 use lb_syntax::{Name, Static};
-use std::alloc::{AllocError, Global};
+use std::alloc::Global;
 
 /// A value, and the range in which it has to be.
 #[derive(Clone, Copy)]
@@ -81,11 +85,9 @@ fn width(name: &Name, elements: i64) -> Ranged {
 /// The first static expression whose value is out of its range in a node whose static expressions
 /// have these values, or else the first variable with too many elements.
 fn node_fault(node: &ResolvedNode, statics: &[StaticInt], values: &InstanceValues) -> Ranged {
-    for (place, part) in node.statics.iter().enumerate() {
-        if let Some(value) = statics.get(place) {
-            if let Some(found) = value_outside(part, *value, values) {
-                return found;
-            }
+    for place in 0..node.statics.len().min(statics.len()) {
+        if let Some(found) = value_outside(&node.statics[place], statics[place], values) {
+            return found;
         }
     }
     let tree = node.tree;
@@ -98,27 +100,29 @@ fn node_fault(node: &ResolvedNode, statics: &[StaticInt], values: &InstanceValue
     width(&tree.name, 0)
 }
 
-/// The first value of a node that is out of its range, and the path to the instance at `place`.
+/// The error for the first value of a node that is out of its range, in the instance at `place`.
 pub fn range_fault(
     alloc: Global,
     node: &ResolvedNode,
     statics: &[StaticInt],
     values: &InstanceValues,
     place: &InstancePlace,
-) -> Result<Box<RangeFault>, AllocError> {
+) -> StaticError
+    ensures { IsRangeFault result }
+{
     let found = node_fault(node, statics, values);
-    let path = call_path(alloc, place.reached, place.instances, place.origin)?;
-    let node = String::from_str(alloc, node.tree.name.as_str())?;
-    Ok(Box::new(
-        alloc,
-        RangeFault {
-            role: found.role,
-            offset: found.offset,
-            value: found.value,
-            least: found.least,
-            most: found.most,
-            node,
-            path,
-        },
-    )?)
+    let mut is_refused = false;
+    let fault = RangeFault {
+        role: found.role,
+        offset: found.offset,
+        value: found.value,
+        least: found.least,
+        most: found.most,
+        node: copy_of(alloc, node.tree.name.as_str(), &mut is_refused),
+        path: path_to(alloc, place, &mut is_refused),
+    };
+    match Box::new(alloc, fault) {
+        Ok(fault) if !is_refused => StaticError::Range(fault),
+        _ => StaticError::Memory,
+    }
 }

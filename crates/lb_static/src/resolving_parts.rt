@@ -61,7 +61,7 @@ pub fn named<'s>(
         role: Role::Value,
         text: StaticText::Named(name),
     };
-    Ok(Term::Value(here.push_static(alloc, part)?))
+    Ok(Term::Value(here.push_static(part)?))
 }
 
 /// The number of a static expression, with its names judged.
@@ -80,7 +80,7 @@ pub fn one_static<'s>(
         role,
         text: StaticText::Written(text),
     };
-    here.push_static(alloc, part)
+    here.push_static(part)
 }
 
 /// The number of the first of some static expressions that stand one after another, and their

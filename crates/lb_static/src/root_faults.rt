@@ -8,12 +8,13 @@ use crate::causes::{RootFault, RootRule, Start};
 use crate::check_interface::has_no_parameters;
 use crate::data_type::DataType;
 use crate::error::StaticError;
+use crate::fault_texts::copy_of;
 use crate::interface::Interface;
 use crate::name_faults::declared_name;
 use crate::reachable::Reached;
 use crate::signature::Signature;
 use lb_syntax::{Declarations, Name, Node};
-use std::alloc::{AllocError, Global};
+use std::alloc::Global;
 
 /// A rule, and the parameter, input or output that breaks it, if one does.
 #[derive(Clone, Copy)]
@@ -22,35 +23,31 @@ pub struct Broken<'t> {
     name: Option<&'t Name>,
 }
 
-/// The fault of a start that breaks a rule, in a box. Its place is that of the parameter, input or
-/// output that breaks it, or else that of the node.
-fn boxed_fault(
-    alloc: Global,
-    start: Start,
-    tree: &Node,
-    broken: Broken,
-) -> Result<Box<RootFault>, AllocError> {
-    let name = broken.name.unwrap_or(&tree.name);
-    Ok(Box::new(
-        alloc,
-        RootFault {
-            rule: broken.rule,
-            start,
-            node: String::from_str(alloc, tree.name.as_str())?,
-            name: String::from_str(alloc, name.as_str())?,
-            offset: name.offset,
-        },
-    )?)
+/// The error for a start, by its fault.
+fn boxed(alloc: Global, fault: RootFault, is_refused: bool) -> StaticError
+    ensures { IsRootFault (Unit {0}) result }
+{
+    match Box::new(alloc, fault) {
+        Ok(fault) if !is_refused => StaticError::Root(fault),
+        _ => StaticError::Memory,
+    }
 }
 
-/// The error for a start that breaks a rule.
+/// The error for a start that breaks a rule. Its place is that of the parameter, input or output
+/// that breaks the rule, or else that of the node.
 pub fn root_fault(alloc: Global, start: Start, tree: &Node, broken: Broken) -> StaticError
     ensures { IsRootFault (Unit {0}) result }
 {
-    match boxed_fault(alloc, start, tree, broken) {
-        Ok(fault) => StaticError::Root(fault),
-        Err(_) => StaticError::Memory,
-    }
+    let name = broken.name.unwrap_or(&tree.name);
+    let mut is_refused = false;
+    let fault = RootFault {
+        rule: broken.rule,
+        start,
+        node: copy_of(alloc, tree.name.as_str(), &mut is_refused),
+        name: copy_of(alloc, name.as_str(), &mut is_refused),
+        offset: name.offset,
+    };
+    boxed(alloc, fault, is_refused)
 }
 
 /// The error for a start that is not among the reached nodes, or has no values.
@@ -64,10 +61,7 @@ pub fn missing_fault(alloc: Global, start: Start) -> StaticError
         name: String::new(alloc),
         offset: 0,
     };
-    match Box::new(alloc, fault) {
-        Ok(fault) => StaticError::Root(fault),
-        Err(_) => StaticError::Memory,
-    }
+    boxed(alloc, fault, false)
 }
 
 /// The error for the node under test, or else for the observer, that has static parameters.

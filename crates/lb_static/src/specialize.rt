@@ -152,13 +152,11 @@ pub fn specialize(
     ensures { IsEvaluated (given_by values.now) node.now result }
 {
     let Some(statics) = part_values(alloc, &node.statics, values)? else {
-        let fault = value_fault(alloc, node, values, place)?;
-        return Err(StaticError::Value(fault));
+        return Err(value_fault(alloc, node, values, place));
     };
     if are_in_range(&node.statics, &statics, values) && are_narrow(&node.variables, &statics) {
         Ok(statics)
     } else {
-        let fault = range_fault(alloc, node, &statics, values, place)?;
-        Err(StaticError::Range(fault))
+        Err(range_fault(alloc, node, &statics, values, place))
     }
 }

@@ -10,7 +10,6 @@
 //! ```
 
 ghost use Rattle.std.specs.Prelude.{◌≡◌, ◌++◌, ◌∷◌, [], length, map, OnOk, OnErr, IfOk, Some, None};
-ghost use Rattle.std.specs.Prelude.{string_bytes};
 ghost use Rattle.lb_static.specs.PartKeys.{key_of, has_key};
 ghost use Rattle.lb_static.specs.StaticParts.{part_of};
 ghost use Rattle.lb_static.specs.SharedParts.{is_held_at, place_of, with_static, first_with};
@@ -26,7 +25,7 @@ use std::collections::BTreeMap;
 pub struct StaticParts<'s> {
     parts: Vec<StaticPart<'s>>,
     /// The first place of each key.
-    places: BTreeMap<String, usize>,
+    places: BTreeMap<u64, usize>,
     ghost placed: { ArePartsPlaced (map part_of parts.items) places },
 }
 
@@ -73,10 +72,9 @@ impl<'s> StaticParts<'s> {
     }
 
     /// Adds a static expression at the end, whose key is new.
-    fn add(&mut self, key: String, part: StaticPart<'s>) -> Result<StaticId, AllocError>
-        requires key { key_of (part_of part) ≡ Some (string_bytes key) }
-        requires fresh { first_with (has_key (string_bytes key)) (map part_of self.old.parts.items)
-            ≡ None }
+    fn add(&mut self, key: u64, part: StaticPart<'s>) -> Result<StaticId, AllocError>
+        requires key { key_of (part_of part) ≡ Some key }
+        requires fresh { first_with (has_key key) (map part_of self.old.parts.items) ≡ None }
         ensures after { OnOk result
             (self.new.parts.items ≡ self.old.parts.items ++ part.entry ∷ []) }
         ensures place { IfOk result (λ id. id.0 ≡ length self.old.parts.items) }
@@ -93,17 +91,17 @@ impl<'s> StaticParts<'s> {
 
     /// Keeps a static expression and returns its place: that of an equal one, if one is found, or
     /// else a new place at the end. Where memory is refused nothing is added.
-    pub fn push(&mut self, alloc: Global, part: StaticPart<'s>) -> Result<StaticId, AllocError>
+    pub fn push(&mut self, part: StaticPart<'s>) -> Result<StaticId, AllocError>
         ensures after { IfOk result (λ _.
             self.new.parts.items ≡ with_static self.old.parts.items part.entry) }
         ensures place { IfOk result (λ id.
             id.0 ≡ place_of (map part_of self.old.parts.items) (part_of part.entry)) }
         ensures err { OnErr result (self.new.parts.items ≡ self.old.parts.items) }
     {
-        let Some(key) = key_of(alloc, part)? else {
+        let Some(key) = key_of(part) else {
             return self.append(part);
         };
-        match self.places.get(key.as_str()).copied() {
+        match self.places.get(&key).copied() {
             Some(place) if self.is_held_at(place, part) => Ok(StaticId(place)),
             Some(_) => self.append(part),
             None => self.add(key, part),

@@ -5,9 +5,6 @@ use Rattle.std.specs.Prelude.{option_map, slice_get}
 use Rattle.std.proofs.lemmas.List.{length-map}
 use Rattle.std.proofs.lemmas.Option.{slice_get-map, slice_get_read}
 use Rattle.lb_syntax.specs.SourceView.{view_constant, view_source}
-use Rattle.lb_static.specs.NamedConstants.{places_named}
-use Rattle.lb_static.specs.Parts.{static_names}
-use Rattle.lb_static.specs.WorkLists.{visited_after_all}
 use Rattle.lb_static.proofs.CheckedConstants.{AreJudged, all_judged, fault_judged, more_judged}
 use Rattle.lb_static.proofs.WorkLists.{past_end}
 use Rattle.lb_static.proofs.constant_names.check_visited.Goals as goal
@@ -33,9 +30,7 @@ loop-place-preserved c =
     let more = more_judged s g c.requires.names count c.requires.once before order done place k
     c.loop-place.invariant.judged (sym c.in-Some.ensures.value) at
     c.in_default-first_unknown.ensures in
-    let after = c.in_ok-visit_names.ensures.order
-    ∙ ap (λ l. visited_after_all order (places_named g l (static_names k.value)))
-    c.requires.nothing in
+    let after = c.in_ok-visit_names.ensures.order in
     let next : suc done ≡ done + 1 = omega arith in
     record {
       count = c.in_ok-visit_names.ensures.count ∙ c.loop-place.invariant.count;

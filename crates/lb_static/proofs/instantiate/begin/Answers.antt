@@ -13,8 +13,7 @@ returns-then-len-ge-MOST_INSTANCES-clause-judged c = search rules
 -- where memory is refused, no instance is judged
 pub returns-in_err-push-clause-judged : goal.returns-in_err-push-clause-judged
 returns-in_err-push-clause-judged c =
-    let p = err_from_is_err_and c.from_residual-in_err-push.result
-    c.from_residual-in_err-push.ensures.1 in
+    let p = err_from_is_err_and c.from_residual.result c.from_residual.ensures.1 in
     rw (p.1, p.2) (λ P q n w at low judged. tt)
 
 pub returns-in_err-found-clause-judged : goal.returns-in_err-found-clause-judged

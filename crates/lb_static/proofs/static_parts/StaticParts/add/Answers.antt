@@ -1,13 +1,13 @@
 -- One more static expression with a new key has its place in the map.
-use Rattle.std.proofs.Common.{◌≡◌, ◌∷◌, ◌∙◌, [], Some, ap, arith, length, map, string_bytes, sym}
+use Rattle.std.proofs.Common.{◌≡◌, ◌∷◌, ◌∙◌, [], ap, arith, length, map, sym}
 use Rattle.std.specs.Prelude.{vec_len}
+use Rattle.std.specs.Ordering.{is_eq, nat_cmp}
+use Rattle.std.specs.Map.{lookup}
 use Rattle.std.proofs.lemmas.List.{length-map, map-append}
-use Rattle.std.proofs.lemmas.Map.Text.{btree_map_updates_text}
 use Rattle.lb_static.specs.PartKeys.{has_key}
 use Rattle.lb_static.specs.SharedParts.{first_with}
 use Rattle.lb_static.specs.StaticParts.{part_of}
 use Rattle.lb_static.proofs.Lists.{popped}
-use Rattle.lb_static.proofs.Lookups.{same_entries}
 use Rattle.lb_static.proofs.SharedParts.{newly_placed}
 use Rattle.lb_static.proofs.static_parts.StaticParts.add.Goals as goal
 
@@ -15,7 +15,7 @@ pub invariant_of-self-in-Ok : goal.invariant_of-self-in-Ok
 invariant_of-self-in-Ok c =
     let here = c.args.self.now in
     let ps = here.parts.items in
-    let key = string_bytes c.args.key in
+    let key = c.args.key in
     let last : c.len-place.result ≡ length ps = omega (arith, c.len-place.ensures) in
     record {
       placed = newly_placed here.places c.insert.new.self (map part_of ps)
@@ -23,8 +23,7 @@ invariant_of-self-in-Ok c =
           here.placed c.requires.key c.requires.fresh (last ∙ sym (length-map ps part_of))
           (ap (map part_of) c.in_ok-push.ensures.items
           ∙ map-append part_of ps (c.args.part ∷ []))
-          (btree_map_updates_text key here.places c.insert.new.self (Some c.len-place.result)
-          c.in-Ok.ensures.updates);
+          c.in-Ok.ensures.updates.0;
     }
 
 -- the static expressions without the one that has no place in the map
@@ -39,7 +38,7 @@ pub invariant_of-self-in_default : goal.invariant_of-self-in_default
 invariant_of-self-in_default c =
     let here = c.args.self.now in
     record {
-      placed = λ k. same_entries here.places c.insert.new.self k c.in_default.ensures.err
+      placed = λ k. ap (λ es. lookup (λ j. is_eq (nat_cmp k j)) es) c.in_default.ensures.err
           ∙ here.placed k
           ∙ ap (λ l. first_with (has_key k) (map part_of l)) (sym (unchanged c));
     }

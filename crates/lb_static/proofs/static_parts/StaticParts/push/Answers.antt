@@ -1,6 +1,5 @@
 -- The place of a static expression is the place of an equal one, or the last place.
-use Rattle.std.proofs.Common.{◌∙◌, ap, map, option_map, string_bytes, sym}
-use Rattle.std.specs.BTreeMap.{get_by_text}
+use Rattle.std.proofs.Common.{◌∙◌, map, sym}
 use Rattle.lb_static.specs.StaticParts.{part_of}
 use Rattle.lb_static.proofs.SharedParts.{another_there, fresh_key, held_place, held_static}
 use Rattle.lb_static.proofs.SharedParts.{held_there, last_place, new_static, unkeyed}
@@ -12,7 +11,7 @@ returns-in_default-clause-place c =
     let q = c.args.part in
     last_place c.append.result ps q
     (unkeyed (map part_of ps) (part_of q)
-    (sym c.in_ok-key.ensures ∙ ap (option_map string_bytes) c.in_default.is))
+    (sym c.key_of.ensures ∙ c.in_default.is))
     c.append.ensures.place
 
 pub returns-in-Some-copied-clause-after : goal.returns-in-Some-copied-clause-after
@@ -20,10 +19,9 @@ returns-in-Some-copied-clause-after c =
     let here = c.args.self.now in
     let ps = here.parts.items in
     let q = c.args.part in
-    let key = string_bytes c.in-Some.key in
-    let keyed = sym c.in_ok-key.ensures ∙ ap (option_map string_bytes) c.in-Some.is in
-    let found = sym (c.copied.ensures ∙ c.get.ensures.value
-    ∙ ap (get_by_text here.places) c.as_str.ensures.value ∙ here.placed key)
+    let key = c.in-Some.key in
+    let keyed = sym c.key_of.ensures ∙ c.in-Some.is in
+    let found = sym (c.copied.ensures ∙ c.get.ensures.value ∙ here.placed key)
     ∙ c.in-Some-copied.is in
     held_static ps q c.in-Some-copied.place
     (held_there (map part_of ps) (part_of q) key c.in-Some-copied.place keyed found
@@ -34,10 +32,9 @@ returns-in-Some-copied-clause-place c =
     let here = c.args.self.now in
     let ps = map part_of here.parts.items in
     let q = part_of c.args.part in
-    let key = string_bytes c.in-Some.key in
-    let keyed = sym c.in_ok-key.ensures ∙ ap (option_map string_bytes) c.in-Some.is in
-    let found = sym (c.copied.ensures ∙ c.get.ensures.value
-    ∙ ap (get_by_text here.places) c.as_str.ensures.value ∙ here.placed key)
+    let key = c.in-Some.key in
+    let keyed = sym c.key_of.ensures ∙ c.in-Some.is in
+    let found = sym (c.copied.ensures ∙ c.get.ensures.value ∙ here.placed key)
     ∙ c.in-Some-copied.is in
     held_place ps q c.in-Some-copied.place
     (held_there ps q key c.in-Some-copied.place keyed found
@@ -48,25 +45,23 @@ returns-in-Some-2-clause-place c =
     let here = c.args.self.now in
     let ps = here.parts.items in
     let q = c.args.part in
-    let key = string_bytes c.in-Some.key in
-    let keyed = sym c.in_ok-key.ensures ∙ ap (option_map string_bytes) c.in-Some.is in
-    let found = sym (c.copied.ensures ∙ c.get.ensures.value
-    ∙ ap (get_by_text here.places) c.as_str.ensures.value ∙ here.placed key)
+    let key = c.in-Some.key in
+    let keyed = sym c.key_of.ensures ∙ c.in-Some.is in
+    let found = sym (c.copied.ensures ∙ c.get.ensures.value ∙ here.placed key)
     ∙ c.in-Some-copied.is in
     last_place c.append-in-Some-2.result ps q
     (another_there (map part_of ps) (part_of q) key c.in-Some-copied.place keyed found
     (sym c.is_held_at.ensures ∙ c.if-is_held_at.false))
     c.append-in-Some-2.ensures.place
 
-pub returns-clause-place : goal.returns-clause-place
-returns-clause-place c =
+pub returns-in-None-clause-place : goal.returns-in-None-clause-place
+returns-in-None-clause-place c =
     let here = c.args.self.now in
     let ps = here.parts.items in
     let q = c.args.part in
-    let key = string_bytes c.in-Some.key in
-    let keyed = sym c.in_ok-key.ensures ∙ ap (option_map string_bytes) c.in-Some.is in
-    let none = sym (c.copied.ensures ∙ c.get.ensures.value
-    ∙ ap (get_by_text here.places) c.as_str.ensures.value ∙ here.placed key) ∙ c.in-None.is in
+    let key = c.in-Some.key in
+    let keyed = sym c.key_of.ensures ∙ c.in-Some.is in
+    let none = sym (c.copied.ensures ∙ c.get.ensures.value ∙ here.placed key) ∙ c.in-None.is in
     last_place c.add.result ps q (fresh_key (map part_of ps) (part_of q) key keyed none)
     c.add.ensures.place
 
@@ -76,7 +71,7 @@ returns-in_default-clause-after c =
     let q = c.args.part in
     new_static c.append.result ps c.append.new.self.parts.items q
     (unkeyed (map part_of ps) (part_of q)
-    (sym c.in_ok-key.ensures ∙ ap (option_map string_bytes) c.in_default.is))
+    (sym c.key_of.ensures ∙ c.in_default.is))
     c.append.ensures.after
 
 pub returns-in-Some-2-clause-after : goal.returns-in-Some-2-clause-after
@@ -84,24 +79,22 @@ returns-in-Some-2-clause-after c =
     let here = c.args.self.now in
     let ps = here.parts.items in
     let q = c.args.part in
-    let key = string_bytes c.in-Some.key in
-    let keyed = sym c.in_ok-key.ensures ∙ ap (option_map string_bytes) c.in-Some.is in
-    let found = sym (c.copied.ensures ∙ c.get.ensures.value
-    ∙ ap (get_by_text here.places) c.as_str.ensures.value ∙ here.placed key)
+    let key = c.in-Some.key in
+    let keyed = sym c.key_of.ensures ∙ c.in-Some.is in
+    let found = sym (c.copied.ensures ∙ c.get.ensures.value ∙ here.placed key)
     ∙ c.in-Some-copied.is in
     new_static c.append-in-Some-2.result ps c.append-in-Some-2.new.self.parts.items q
     (another_there (map part_of ps) (part_of q) key c.in-Some-copied.place keyed found
     (sym c.is_held_at.ensures ∙ c.if-is_held_at.false))
     c.append-in-Some-2.ensures.after
 
-pub returns-clause-after : goal.returns-clause-after
-returns-clause-after c =
+pub returns-in-None-clause-after : goal.returns-in-None-clause-after
+returns-in-None-clause-after c =
     let here = c.args.self.now in
     let ps = here.parts.items in
     let q = c.args.part in
-    let key = string_bytes c.in-Some.key in
-    let keyed = sym c.in_ok-key.ensures ∙ ap (option_map string_bytes) c.in-Some.is in
-    let none = sym (c.copied.ensures ∙ c.get.ensures.value
-    ∙ ap (get_by_text here.places) c.as_str.ensures.value ∙ here.placed key) ∙ c.in-None.is in
+    let key = c.in-Some.key in
+    let keyed = sym c.key_of.ensures ∙ c.in-Some.is in
+    let none = sym (c.copied.ensures ∙ c.get.ensures.value ∙ here.placed key) ∙ c.in-None.is in
     new_static c.add.result ps c.add.new.self.parts.items q
     (fresh_key (map part_of ps) (part_of q) key keyed none) c.add.ensures.after
