@@ -152,7 +152,7 @@ has_room_after data_types k name data_type before after within same room pushed 
 
 -- behind the last variable all elements are there
 pub all_variables : (names : List (Bor Name)) (data_types : List stored.DataType) (k : ℕ)
-    (before all : Elements) → k ≡ min (length names) (length data_types)
+    (before all : Elements) → min (length names) (length data_types) ≤ k
     → before ++ named_from names data_types k ≡ all → before ≡ all
 all_variables names data_types k before all past so_far =
     sym (append-nil before) ∙ ap (λ l. before ++ l)

@@ -3,8 +3,9 @@ use Rattle.std.proofs.Common.{◌≡◌, ℕ, zero, suc, ◌+◌, ◌<◌, ◌�
 use Rattle.std.proofs.Common.{◌∷◌}
 use Rattle.std.proofs.Common.{length, drop, get_or, Option, Some, None, refl, ap, sym, ◌∙◌, subst}
 use Rattle.std.proofs.Common.{arith, add-one}
-use Rattle.std.specs.Prelude.{option_map, find}
-use Rattle.std.specs.List.{zip}
+use Rattle.std.specs.Prelude.{MatchOption, find, option_copied, option_map}
+use Rattle.std.specs.Borrow.{Bor}
+use Rattle.std.specs.List.{HoldsAt, zip}
 use Rattle.std.specs.Str.{bytes_eq}
 use Rattle.std.proofs.Math.ListN.{drop_of_length-le}
 use Rattle.std.proofs.lemmas.List.{drop_more}
@@ -65,3 +66,17 @@ pub value_short : (x : Name) (names : List Name) (values : List ℤ) (i : ℕ) �
 value_short x names values i past h =
     sym (none_left x (drop i names))
     ∙ sym (ap (value_among x (drop i names)) (drop_of_length-le values past)) ∙ h
+
+-- the value that is read at the place of the first parameter with this name, or none
+pub value_read : (x : Name) (names : List Name) (values : List ℤ) (i : ℕ) (n : Name)
+    (o : Option (Bor ℤ)) (r : Option ℤ)
+    → i < length names → n ≡ get_or names i n → bytes_eq n x ≡ true
+    → MatchOption o (length values ≤ i)
+    (λ v. (i < length values) × HoldsAt (λ y. v.now ≡ y) values i)
+    → r ≡ option_copied o
+    → value_among x (drop i names) (drop i values) ≡ value_among x names values
+    → r ≡ value_among x names values
+value_read x names values i n None r below is e past copied h =
+    copied ∙ value_short x names values i past h
+value_read x names values i n (Some v) r below is e found copied h =
+    copied ∙ value_here x names values i n v.now below is e found.0 (found.1 v.now) h

@@ -54,11 +54,12 @@ pub fn elements(
         ≡ elements_named (map (λ x. x.now) names.now) (map view_type data_types.now)) }
 {
     let mut signature = Signature::new(alloc);
-    for (name, data_type) in names.iter().zip(data_types) {
+    for place in 0..names.len().min(data_types.len()) {
+        let data_type = &data_types[place];
         push_elements(
             alloc,
             &mut signature,
-            name.as_str(),
+            names[place].as_str(),
             data_type.kind,
             &data_type.sizes,
         )?;

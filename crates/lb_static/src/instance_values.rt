@@ -25,7 +25,7 @@ fn parameter_value(parameters: &[Name], values: &[StaticInt], name: &str) -> Opt
 {
     for (place, parameter) in parameters.iter().enumerate() {
         if parameter.as_str() == name {
-            return Some(*values.get(place)?);
+            return values.get(place).copied();
         }
     }
     None

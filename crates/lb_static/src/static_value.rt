@@ -178,12 +178,17 @@ pub fn value_or_fault<'s, V: Values>(
         }),
         Static::Named(x) => values.get(x.as_str()).ok_or(NoValue::Name(x)),
         Static::Grouped(inner, _) => value_or_fault(inner, values),
-        Static::Negated(inner, offset) => negated(value_or_fault(inner, values)?, *offset),
-        Static::Combined(op, left, right, offset) => {
-            let a = value_or_fault(left, values)?;
-            let b = value_or_fault(right, values)?;
-            combined_or_fault(*op, a, b, *offset)
-        }
+        Static::Negated(inner, offset) => match value_or_fault(inner, values) {
+            Ok(operand) => negated(operand, *offset),
+            Err(fault) => Err(fault),
+        },
+        Static::Combined(op, left, right, offset) => match value_or_fault(left, values) {
+            Ok(a) => match value_or_fault(right, values) {
+                Ok(b) => combined_or_fault(*op, a, b, *offset),
+                Err(fault) => Err(fault),
+            },
+            Err(fault) => Err(fault),
+        },
     }
 }
 

@@ -11,9 +11,9 @@ loop-node-preserved c =
     let g = c.args.globals.now in
     let order = c.loop-node.work_list.order in
     let statics = c.node-item.result.statics.items in
+    let hidden = c.deref-in-loop-node.result.now in
     let visited = c.in_ok-visit_parts.ensures.order
-    ∙ ap (λ l. visited_after_all order (flat_map (part_constants g c.deref-in-loop-node.result.now) l))
-    c.deref.ensures.value
+    ∙ ap (λ l. visited_after_all order (flat_map (part_constants g hidden) l)) c.deref.ensures.value
     ∙ ap (λ l. visited_after_all order (flat_map (part_constants g l) statics))
     c.deref-in-loop-node.ensures.value in
     record {

@@ -1,5 +1,6 @@
 -- There are as many values as static expressions.
-use Rattle.std.proofs.Common.{◌≡◌, ◌∙◌, sym, ap, length, None, Some, List, ◌+◌, true, subst, rules, arith}
+use Rattle.std.proofs.Common.{◌≡◌, ◌∙◌, sym, ap, length, None, Some, List, ◌+◌, true, subst}
+use Rattle.std.proofs.Common.{rules, arith}
 use Rattle.std.proofs.lemmas.Grind.{common_steps}
 use Rattle.std.specs.Prelude.{nat_le}
 use Rattle.std.specs.List.{list_all}
