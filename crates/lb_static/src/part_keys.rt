@@ -19,6 +19,15 @@ use lb_syntax::{BinaryOperator, Name, Static};
 /// The factor of a key that gets one more number: large and odd, so that few keys fall together.
 const FACTOR: u64 = 6_364_136_223_846_793_005;
 
+/// Stands before a name: the letter `n`.
+const NAME: u64 = 110;
+
+/// Stands before what is in brackets: `(`.
+const GROUPED: u64 = 40;
+
+/// Stands before what is negated: `-`.
+const NEGATED: u64 = 45;
+
 /// Whether two static expressions are written alike.
 fn is_same_static(one: &Static, other: &Static) -> bool
     ensures { result ≡ is_same_static (view_static one.now) (view_static other.now) }
@@ -90,11 +99,11 @@ fn key_with(key: u64, number: u64) -> u64
     key.wrapping_mul(FACTOR).wrapping_add(number)
 }
 
-/// A key with a name in it: the letter `n`, and then the bytes of the name.
+/// A key with a name in it: `NAME`, and then the bytes of the name.
 fn name_key(key: u64, name: &Name) -> u64
     ensures { result ≡ name_key key name.now }
 {
-    let mut longer = key_with(key, 110);
+    let mut longer = key_with(key, NAME);
     let bytes = name.as_str().as_bytes();
     for byte in bytes {
         longer = key_with(longer, u64::from(*byte));
@@ -102,7 +111,7 @@ fn name_key(key: u64, name: &Name) -> u64
     longer
 }
 
-/// The sign of an operator of arithmetic.
+/// The sign of an operator of arithmetic, as its ASCII number; 63, a `?`, for any other operator.
 fn sign_of(op: BinaryOperator) -> u64
     ensures { result ≡ sign_of op }
 {
@@ -123,8 +132,8 @@ fn static_key(key: u64, text: &Static) -> u64
     match text {
         Static::Whole(number, _) => key_with(key, u64::from(*number)),
         Static::Named(name) => name_key(key, name),
-        Static::Grouped(inner, _) => static_key(key_with(key, 40), inner),
-        Static::Negated(inner, _) => static_key(key_with(key, 45), inner),
+        Static::Grouped(inner, _) => static_key(key_with(key, GROUPED), inner),
+        Static::Negated(inner, _) => static_key(key_with(key, NEGATED), inner),
         Static::Combined(op, left, right, _) => {
             let longer = static_key(key_with(key, sign_of(*op)), left);
             static_key(longer, right)
@@ -142,8 +151,8 @@ fn text_key(key: u64, text: StaticText) -> u64
     }
 }
 
-/// The key of a role whose static expressions are kept once, with the first end of a slice where
-/// the role is that of a last end; none for other roles.
+/// The key of a role whose static expressions are kept once: the ASCII number of its letter, with
+/// the first end of a slice where the role is that of a last end; none for other roles.
 fn role_key(role: Role) -> Option<u64>
     ensures { result ≡ role_key (purpose_of role.entry) }
 {
