@@ -20,3 +20,4 @@ pub mod GivenParameters
 pub mod DeclaredClocks
 pub mod OwnTermClocks
 pub mod PlacedWithin
+pub mod KeptNodes

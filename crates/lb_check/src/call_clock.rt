@@ -272,40 +272,25 @@ pub fn result_base(
     }
 }
 
-/// The base clock of a callee whose results are these left variables, if something determines it.
-pub fn result_clock(
-    alloc: Global,
-    env: &ClockEnv,
-    callee: &ResolvedNode,
-    operands: &[Operand],
-    lefts: &[VariableId],
-) -> Result<Option<Clock>, AllocError>
-    ensures { IfOk result (λ base.
-        base ≡ mirror.result_base (context_in env.now) callee.now operands.now lefts.now) }
-{
-    let results = left_operands(alloc, env, lefts)?;
-    Ok(result_base(callee, operands, &results))
-}
-
 /// Whether the operands of a call that is a whole right side, and the left variables as its
-/// results, stand on the clocks of the parameters.
+/// results, stand on the clocks of the parameters, where the callee runs on `base`. The left
+/// variables also stand in `results`, as operands.
 pub fn is_call_clocked(
-    alloc: Global,
-    env: &ClockEnv,
     callee: &ResolvedNode,
+    base: Option<Clock>,
     operands: &[Operand],
     lefts: &[VariableId],
-) -> Result<bool, AllocError>
-    ensures { IfOk result (λ kept.
-        kept ≡ mirror.is_call_clocked (context_in env.now) callee.now operands.now lefts.now) }
+    results: &[Operand],
+) -> bool
+    ensures { (ctx : mirror.Context) →
+        mirror.clock_sets results.now ≡ mirror.left_clock_sets ctx lefts.now →
+        base ≡ mirror.result_base ctx callee.now operands.now lefts.now →
+        result ≡ mirror.is_call_clocked ctx callee.now operands.now lefts.now }
 {
     if lefts.len() != callee.outputs || !are_given(callee, operands) {
-        return Ok(false);
+        return false;
     }
-    let results = left_operands(alloc, env, lefts)?;
-    let base = result_base(callee, operands, &results);
     let given = &Given::Whole(callee.inputs, operands, lefts);
-    let inputs = variables_from(callee, 0, callee.inputs);
-    let outputs = variables_from(callee, callee.inputs, callee.outputs);
-    Ok(all_fit(base, given, inputs, operands) && all_fit(base, given, outputs, &results))
+    all_fit(base, given, inputs_of(callee), operands)
+        && all_fit(base, given, outputs_of(callee), results)
 }

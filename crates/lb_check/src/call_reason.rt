@@ -1,35 +1,30 @@
 //! The reason why a call or an iterator has not one type, where its arguments have types (E9).
 
 use crate::signature::{TypeRow, signature_of};
-use crate::sites::Site;
 use crate::type_env::TypeEnv;
 use crate::type_fault::TypeRule;
-use crate::type_reason::{TypeReason, Typed, of_rule, types_differ};
-use lb_static::DataType;
+use crate::type_reason::{TypeReason, Typed, of_rule};
+use lb_static::{DataType, Term};
 use std::alloc::{AllocError, Global};
 
 /// The reason for an argument, counted from 0, that has another type than its input, or whose input
 /// has no type.
 fn of_argument<'t>(
     alloc: Global,
-    site: Site<'t>,
     inputs: TypeRow<'t>,
     place: usize,
 ) -> Result<TypeReason<'t>, AllocError> {
     if inputs.get(alloc, place)?.is_none() {
-        return Ok(of_rule(TypeRule::Length, site.offset()));
+        return Ok(of_rule(TypeRule::Length));
     }
-    let argument = site.part(place);
-    Ok(types_differ(
-        TypeRule::Argument(place.saturating_add(1)),
-        argument.offset(),
-        Typed::Results(argument.term, None),
-        Typed::Input(inputs, place),
-    ))
+    Ok(TypeReason {
+        rule: TypeRule::Argument(place.saturating_add(1)),
+        wanted: Typed::Input(inputs, place),
+    })
 }
 
 /// The place of the first argument that has another type than its input.
-fn first_unfit(inputs: &TypeRow, types: &[DataType]) -> Option<usize> {
+pub fn first_unfit(inputs: &TypeRow, types: &[DataType]) -> Option<usize> {
     for (place, found) in types.iter().enumerate() {
         if !inputs.is_at(place, found) {
             return Some(place);
@@ -42,25 +37,20 @@ fn first_unfit(inputs: &TypeRow, types: &[DataType]) -> Option<usize> {
 pub fn call_reason<'t>(
     alloc: Global,
     env: &TypeEnv<'t, '_>,
-    site: Site<'t>,
+    term: &Term,
     types: &[DataType],
 ) -> Result<TypeReason<'t>, AllocError> {
-    let signature = signature_of(alloc, env, site.term, types.len())?;
+    let signature = signature_of(alloc, env, term, types.len())?;
     let inputs = signature.takes;
     let (found, wanted) = (types.len(), inputs.len());
     if !signature.stands {
-        return Ok(of_rule(TypeRule::IteratedNode, site.offset()));
+        return Ok(of_rule(TypeRule::IteratedNode));
     }
     if found != wanted {
-        return Ok(of_rule(TypeRule::ArgumentCount { found, wanted }, site.offset()));
+        return Ok(of_rule(TypeRule::ArgumentCount { found, wanted }));
     }
     match first_unfit(&inputs, types) {
-        Some(place) => of_argument(alloc, site, inputs, place),
-        None => Ok(types_differ(
-            TypeRule::ResultCount,
-            site.offset(),
-            Typed::Results(site.term, None),
-            Typed::Nothing,
-        )),
+        Some(place) => of_argument(alloc, inputs, place),
+        None => Ok(of_rule(TypeRule::ResultCount)),
     }
 }

@@ -5,7 +5,7 @@ ghost use Rattle.std.specs.Prelude.{◌≡◌, IfOk, string_bytes};
 ghost use Rattle.lb_syntax.specs.Lists.{listed};
 ghost use Rattle.lb_static.specs.ReachedNodes.{tree_at};
 
-use crate::part::Part;
+use crate::part::{IllFormed, Part};
 use lb_static::{
     CallPath, NodeId, Origin, Reached, SpecializationId, Table, VariableId, call_path,
 };
@@ -13,7 +13,7 @@ use lb_syntax::{Declarations, Name, Node, Sampling};
 use std::alloc::{AllocError, Global};
 
 /// A copy of the name of a node; an empty one where there is no such node.
-pub fn name_of(alloc: Global, reached: &Reached, id: NodeId) -> Result<String, AllocError>
+fn name_of(alloc: Global, reached: &Reached, id: NodeId) -> Result<String, AllocError>
     ensures { IfOk result (λ name.
         string_bytes name ≡ listed (λ n. n.name) (tree_at reached.now id)) }
 {
@@ -39,7 +39,7 @@ fn is_sought(
 }
 
 /// The way to the first instance of a node, or of its specialization at a place.
-pub fn path_to(
+fn path_to(
     alloc: Global,
     reached: &Reached,
     table: &Table,
@@ -93,17 +93,6 @@ pub fn declared_variable<'t>(node: &'t Node, variable: VariableId) -> Option<Dec
     declared_among(&node.locals, &mut place)
 }
 
-/// The offset at which the name of a variable of a node is declared.
-pub fn variable_offset(node: &Node, variable: VariableId) -> u32 {
-    match declared_variable(node, variable) {
-        Some(declared) => {
-            let name = declared.name;
-            name.offset
-        }
-        None => 0,
-    }
-}
-
 /// Adds the names of some declarations.
 fn add_names<'t>(
     names: &mut Vec<&'t Name>,
@@ -117,13 +106,11 @@ fn add_names<'t>(
     Ok(())
 }
 
-/// The names of the variables of a node, by their places.
-pub fn variable_names<'t>(alloc: Global, node: &'t Node) -> Result<Vec<&'t Name>, AllocError> {
-    let mut names = Vec::new(alloc);
-    add_names(&mut names, &node.inputs)?;
-    add_names(&mut names, &node.outputs)?;
-    add_names(&mut names, &node.locals)?;
-    Ok(names)
+/// Adds the names of the variables of a node, by their places.
+pub fn add_variable_names<'t>(node: &'t Node, names: &mut Vec<&'t Name>) -> Result<(), AllocError> {
+    add_names(names, &node.inputs)?;
+    add_names(names, &node.outputs)?;
+    add_names(names, &node.locals)
 }
 
 /// The offset of the variable of a declared clock.
@@ -138,19 +125,55 @@ pub fn clock_offset(node: &Node, variable: VariableId) -> u32 {
     name.offset
 }
 
-/// The offset at which a statement of a node begins.
-fn statement_offset(node: &Node, place: usize) -> u32 {
-    match node.body.get(place) {
-        Some(statement) => statement.offset(),
-        None => 0,
+/// The offset at which a part of a node begins.
+fn part_offset(reached: &Reached, found: IllFormed) -> u32 {
+    let Some(node) = reached.nodes.get(found.node.0) else {
+        return 0;
+    };
+    match found.part {
+        Part::Variable(variable) => match declared_variable(node.tree, variable) {
+            Some(declared) => {
+                let name = declared.name;
+                name.offset
+            }
+            None => 0,
+        },
+        Part::Statement(place) => match node.tree.body.get(place) {
+            Some(statement) => statement.offset(),
+            None => 0,
+        },
     }
 }
 
-/// The offset at which a part of a node begins.
-pub fn part_offset(reached: &Reached, id: NodeId, part: Part) -> u32 {
-    match (reached.nodes.get(id.0), part) {
-        (Some(node), Part::Variable(variable)) => variable_offset(node.tree, variable),
-        (Some(node), Part::Statement(place)) => statement_offset(node.tree, place),
-        (None, _) => 0,
-    }
+/// A part of a node that breaks a rule, as an error names it.
+pub struct FaultyPart {
+    /// The name of the node.
+    pub node: String,
+    pub part: Part,
+    /// The offset at which the part begins.
+    pub offset: u32,
+    /// The calls by which an instance of the node is reached.
+    pub path: CallPath,
+}
+
+/// The part that is found to break a rule, with the way to the first instance of its node, or of
+/// the specialization at a place.
+pub fn faulty_part(
+    alloc: Global,
+    reached: &Reached,
+    table: &Table,
+    found: IllFormed,
+    place: Option<usize>,
+) -> Result<FaultyPart, AllocError>
+    ensures node { IfOk result (λ faulty. string_bytes faulty.node
+        ≡ listed (λ n. n.name) (tree_at reached.now found.node)) }
+    ensures part { IfOk result (λ faulty. faulty.part ≡ found.part) }
+{
+    let node = name_of(alloc, reached, found.node)?;
+    Ok(FaultyPart {
+        node,
+        part: found.part,
+        offset: part_offset(reached, found),
+        path: path_to(alloc, reached, table, found.node, place)?,
+    })
 }

@@ -1,6 +1,6 @@
 //! Types, clocks and definitions of a program (E9, E10, E11).
 
-ghost use Rattle.std.specs.Prelude.{◌≡◌, IfOk, MatchOption, MatchResult, None, map, true};
+ghost use Rattle.std.specs.Prelude.{◌≡◌, IfOk, MatchResult, None, map, true};
 ghost use Rattle.std.specs.List.{list_all};
 ghost use Rattle.lb_static.specs.Elaborated.{elaborated_program, IsLawful};
 ghost use Rattle.lb_static.specs.Instances.{Program, instances};
@@ -34,22 +34,17 @@ struct Found {
     types: Option<Vec<NodeTypes>>,
 }
 
-/// The first of the rules of definitions (E11) that a program breaks, over all instances, where it
-/// keeps those of types and clocks.
-fn definition_refusal(
-    alloc: Global,
-    reached: &Reached,
-    table: &Table,
-) -> Result<Option<CheckError>, AllocError>
+/// Refuses a program that keeps the rules of types and clocks, but breaks one of definitions (E11),
+/// over all instances.
+fn judge_definitions(alloc: Global, reached: &Reached, table: &Table) -> Result<(), CheckError>
     ensures { (P : Program) → IsJudged P reached.now table.now
         → list_all (is_typed P) (instances P) ≡ true
         → list_all (λ here. is_clocked P here.node) (instances P) ≡ true
-        → IfOk result (λ found.
-        MatchOption found (check_refusal P ≡ None) (λ e. IsAnswer P (Err e))) }
+        → MatchResult result (λ _. check_refusal P ≡ None) (λ e. IsAnswer P (Err e)) }
 {
     match ill_defined(alloc, reached, table)? {
-        Some(found) => Ok(Some(definition_error(alloc, reached, table, found)?)),
-        None => Ok(None),
+        Some(found) => Err(definition_error(alloc, reached, table, found)?),
+        None => Ok(()),
     }
 }
 
@@ -59,47 +54,38 @@ fn judged_clocks(
     alloc: Global,
     reached: &Reached,
     table: &Table,
-) -> Result<Result<Vec<NodeClocks>, CheckError>, AllocError>
+) -> Result<Vec<NodeClocks>, CheckError>
     ensures answer { (P : Program) → IsJudged P reached.now table.now
-        → list_all (is_typed P) (instances P) ≡ true → IfOk result (λ found.
-        MatchResult found (λ _. check_refusal P ≡ None) (λ e. IsAnswer P (Err e))) }
-    ensures clocks { IfOk result (λ found. IfOk found (λ clocks. map found_in clocks.items
+        → list_all (is_typed P) (instances P) ≡ true
+        → MatchResult result (λ _. check_refusal P ≡ None) (λ e. IsAnswer P (Err e)) }
+    ensures clocks { IfOk result (λ clocks. map found_in clocks.items
         ≡ map (λ n. with_terms nothing_found (node_terms reached.now n))
-        reached.now.nodes.items)) }
+        reached.now.nodes.items) }
 {
     let program = program_clocks(alloc, reached, table)?;
     if let Some(found) = program.broken {
-        return Ok(Err(clock_error(alloc, reached, table, found)?));
+        return Err(clock_error(alloc, reached, table, found)?);
     }
-    match definition_refusal(alloc, reached, table)? {
-        Some(error) => Ok(Err(error)),
-        None => Ok(Ok(program.clocks)),
-    }
+    judge_definitions(alloc, reached, table)?;
+    Ok(program.clocks)
 }
 
 /// The clocks and types of the terms of a program; or the first of the rules of types (E9), clocks
 /// (E10) and definitions (E11) that it breaks, each over all instances, with its fault.
-fn judged_program(
-    alloc: Global,
-    reached: &Reached,
-    table: &Table,
-) -> Result<Result<Found, CheckError>, AllocError>
-    ensures answer { (P : Program) → IsJudged P reached.now table.now → IfOk result (λ found.
-        MatchResult found (λ _. check_refusal P ≡ None) (λ e. IsAnswer P (Err e))) }
-    ensures clocks { IfOk result (λ found. IfOk found (λ f. map found_in f.clocks.items
+fn judged_program(alloc: Global, reached: &Reached, table: &Table) -> Result<Found, CheckError>
+    ensures answer { (P : Program) → IsJudged P reached.now table.now
+        → MatchResult result (λ _. check_refusal P ≡ None) (λ e. IsAnswer P (Err e)) }
+    ensures clocks { IfOk result (λ f. map found_in f.clocks.items
         ≡ map (λ n. with_terms nothing_found (node_terms reached.now n))
-        reached.now.nodes.items)) }
-    ensures types { IfOk result (λ found. IfOk found (λ f.
-        AreFound reached.now table.now f.types)) }
+        reached.now.nodes.items) }
+    ensures types { IfOk result (λ f. AreFound reached.now table.now f.types) }
 {
     let types = match judged_types(alloc, reached, table)? {
         Ok(types) => types,
-        Err(found) => return Ok(Err(type_error(alloc, reached, table, found)?)),
+        Err(found) => return Err(type_error(alloc, reached, table, found)?),
     };
-    match judged_clocks(alloc, reached, table)? {
-        Ok(clocks) => Ok(Ok(Found { clocks, types })),
-        Err(error) => Ok(Err(error)),
-    }
+    let clocks = judged_clocks(alloc, reached, table)?;
+    Ok(Found { clocks, types })
 }
 
 /// Checks an elaborated program: the first of the rules of types (E9), clocks (E10) and definitions
@@ -110,12 +96,10 @@ pub fn check<'s>(alloc: Global, elab: Elab<'s>) -> Result<Checked<'s>, CheckErro
     ensures same { IfOk result (λ c. c.elab ≡ elab.entry) }
     ensures lawful { IsLawful elab.entry }
 {
-    match judged_program(alloc, elab.reached(), elab.table())? {
-        Err(error) => Err(error),
-        Ok(found) => Ok(Checked::new(Checking {
-            elab,
-            clocks: found.clocks,
-            types: found.types,
-        })),
-    }
+    let found = judged_program(alloc, elab.reached(), elab.table())?;
+    Ok(Checked::new(Checking {
+        elab,
+        clocks: found.clocks,
+        types: found.types,
+    }))
 }

@@ -13,25 +13,24 @@ ghost use Rattle.lb_check.specs.ClockRules.{is_clocked};
 ghost use Rattle.lb_check.specs.Correct.{IsAnswer};
 
 use crate::call_clock::{left_operands, parameters, variable_of};
-use crate::cause::{clock_offset, name_of, part_offset, path_to, variable_names};
+use crate::cause::{FaultyPart, add_variable_names, clock_offset, faulty_part};
 use crate::clock_fault::{ClockFault, ClockRule, ClockSign, SourceClock};
-use crate::clock_reason::{ClockReason, called_reason, clock_reason, lefts_reason, of_rule};
+use crate::clock_reason::{ClockReason, clock_reason, equation_reason, of_rule, own_clock_set};
 use crate::clock_set::{ClockSet, Operand};
 use crate::error::CheckError;
 use crate::own_clock::{Clock, declared_clock};
 use crate::part::{IllFormed, Part};
-use crate::sites::{Site, right_side, ungrouped};
-use crate::term_clock::{ClockEnv, row_clock_set, unary_clock_set};
-use lb_static::{Reached, ResolvedNode, ResolvedStatement, Table, Term, VariableId};
+use crate::sites::{Site, StatementSite, left_offset, statement_at};
+use crate::term_clock::ClockEnv;
+use lb_static::{Reached, ResolvedNode, ResolvedStatement, Table, VariableId};
 use lb_syntax::{Name, Statement};
 use std::alloc::{AllocError, Global};
 
-/// The clocks that a term with these operands accepts.
-fn own_clock_set(env: &ClockEnv, term: &Term, operands: &[Operand]) -> ClockSet {
-    match term {
-        Term::Variable(x) => ClockSet::OneClock(env.variable(*x)),
-        _ => unary_clock_set(env, term, row_clock_set(env, term, operands)),
-    }
+/// A term that stands on no clock, or the right side of an equation that breaks a rule, and why.
+#[derive(Clone, Copy)]
+struct Unclocked<'t> {
+    site: Site<'t>,
+    reason: ClockReason,
 }
 
 /// The operands of a term. `unclocked` is the first part of it that stands on no clock, though each
@@ -41,7 +40,7 @@ fn clocked_operands<'t>(
     alloc: Global,
     env: &ClockEnv,
     site: Site<'t>,
-    unclocked: &mut Option<Site<'t>>,
+    unclocked: &mut Option<Unclocked<'t>>,
 ) -> Result<Vec<Operand>, AllocError> {
     let mut operands = Vec::new(alloc);
     for place in 0..usize::MAX {
@@ -62,65 +61,55 @@ fn clocked_term<'t>(
     alloc: Global,
     env: &ClockEnv,
     site: Site<'t>,
-    unclocked: &mut Option<Site<'t>>,
+    unclocked: &mut Option<Unclocked<'t>>,
 ) -> Result<ClockSet, AllocError> {
     let operands = clocked_operands(alloc, env, site, unclocked)?;
     let clock_set = own_clock_set(env, site.term, &operands);
     if unclocked.is_none() && !clock_set.stands() {
-        *unclocked = Some(site);
+        let reason = clock_reason(env, site.term, &operands);
+        *unclocked = Some(Unclocked { site, reason });
     }
     Ok(clock_set)
 }
 
-/// The reason why a part stands on no clock, though each of its operands does.
-fn unclocked_reason(alloc: Global, env: &ClockEnv, site: Site) -> Result<ClockReason, AllocError> {
-    let operands = clocked_operands(alloc, env, site, &mut None)?;
-    Ok(clock_reason(env, site, &operands))
-}
-
-/// The reason why an equation breaks the rules whose right side has these operands.
-fn equation_reason(
-    alloc: Global,
-    env: &ClockEnv,
-    lefts: &[VariableId],
-    site: Site,
-    operands: &[Operand],
-    statement: &Statement,
-) -> Result<ClockReason, AllocError> {
-    let results = left_operands(alloc, env, lefts)?;
-    if let Term::Call(call, _) = site.term {
-        return match env.callee(*call) {
-            Some(callee) => {
-                Ok(called_reason(site, callee, operands, lefts, &results, statement))
-            }
-            None => Ok(of_rule(ClockRule::Argument(1), site.offset())),
-        };
-    }
-    let right = own_clock_set(env, site.term, operands);
-    if right.stands() {
-        Ok(lefts_reason(right, &results, statement))
-    } else {
-        Ok(clock_reason(env, site, operands))
-    }
-}
-
 /// The reason why a statement breaks the rules of clocks.
-fn statement_reason(
+fn statement_reason<'t>(
     alloc: Global,
     env: &ClockEnv,
-    resolved: &ResolvedStatement,
-    statement: &Statement,
-) -> Result<ClockReason, AllocError> {
-    let (ResolvedStatement::Equation(_, term) | ResolvedStatement::Assertion(term)) = resolved;
-    let whole = ungrouped(term, right_side(statement));
+    at: StatementSite<'t>,
+) -> Result<Unclocked<'t>, AllocError> {
+    let site = at.right;
     let mut unclocked = None;
-    let operands = clocked_operands(alloc, env, whole, &mut unclocked)?;
-    match (unclocked, resolved) {
-        (Some(site), _) => unclocked_reason(alloc, env, site),
-        (None, ResolvedStatement::Equation(lefts, _)) => {
-            equation_reason(alloc, env, lefts, whole, &operands, statement)
+    let operands = clocked_operands(alloc, env, site, &mut unclocked)?;
+    if let Some(unclocked) = unclocked {
+        return Ok(unclocked);
+    }
+    let reason = match at.resolved {
+        ResolvedStatement::Equation(lefts, _) => {
+            let results = left_operands(alloc, env, lefts)?;
+            equation_reason(env, site.term, &operands, lefts, &results)
         }
-        (None, ResolvedStatement::Assertion(_)) => Ok(clock_reason(env, whole, &operands)),
+        ResolvedStatement::Assertion(_) => clock_reason(env, site.term, &operands),
+    };
+    Ok(Unclocked { site, reason })
+}
+
+/// The offset of what is at fault: a left variable, an operand or an argument, or a whole term.
+fn fault_offset(rule: ClockRule, site: Site, statement: &Statement) -> u32 {
+    match rule {
+        ClockRule::Operand(count) | ClockRule::Argument(count) | ClockRule::ClockArgument(count) =>
+            site.part(count.saturating_sub(1)).offset(),
+        ClockRule::When | ClockRule::Current => site.part(0).offset(),
+        ClockRule::Left(count) => left_offset(statement, count.saturating_sub(1)),
+        ClockRule::IteratedNode | ClockRule::Interface | ClockRule::Circle => site.offset(),
+    }
+}
+
+/// The offset of the sign of the operator whose operand is at fault.
+fn fault_sign(rule: ClockRule, site: Site) -> Option<u32> {
+    match rule {
+        ClockRule::Operand(_) | ClockRule::When | ClockRule::Current => Some(site.sign_offset()),
+        _ => None,
     }
 }
 
@@ -132,40 +121,58 @@ fn name_at(alloc: Global, names: &[&Name], variable: VariableId) -> Result<Strin
     }
 }
 
-/// The signs on which a clock of a node rests, the last one first.
-fn signs_of(
+/// Adds the signs on which a clock of a node rests, the last one first.
+fn add_signs(
     alloc: Global,
     node: &ResolvedNode,
+    names: &[&Name],
     clock: Clock,
-) -> Result<Vec<ClockSign>, AllocError> {
-    let names = variable_names(alloc, node.tree)?;
-    let mut signs = Vec::new(alloc);
+    signs: &mut Vec<ClockSign>,
+) -> Result<(), AllocError> {
     let mut above = clock;
     for _ in 0..node.variables.len() {
         let Clock::On(variable, sign) = above else {
             break;
         };
         signs.push(ClockSign {
-            variable: name_at(alloc, &names, variable)?,
+            variable: name_at(alloc, names, variable)?,
             sign,
         })?;
         above = declared_clock(node, variable);
     }
-    Ok(signs)
+    Ok(())
 }
 
-/// A clock of a node as it is written, if there is one.
-fn shown(
+/// Shows a clock of a node as it is written, if there is one.
+fn show(
     alloc: Global,
     node: &ResolvedNode,
+    names: &[&Name],
     clock: Option<Clock>,
-) -> Result<Option<SourceClock>, AllocError> {
+    shown: &mut Option<SourceClock>,
+) -> Result<(), AllocError> {
     let Some(clock) = clock else {
-        return Ok(None);
+        return Ok(());
     };
-    let mut signs = signs_of(alloc, node, clock)?;
+    let mut signs = Vec::new(alloc);
+    add_signs(alloc, node, names, clock, &mut signs)?;
     signs.reverse();
-    Ok(Some(SourceClock { signs }))
+    *shown = Some(SourceClock { signs });
+    Ok(())
+}
+
+/// Shows the clock that is found and the clock that is wanted.
+fn show_both(
+    alloc: Global,
+    node: &ResolvedNode,
+    reason: ClockReason,
+    found: &mut Option<SourceClock>,
+    wanted: &mut Option<SourceClock>,
+) -> Result<(), AllocError> {
+    let mut names = Vec::new(alloc);
+    add_variable_names(node.tree, &mut names)?;
+    show(alloc, node, &names, reason.found, found)?;
+    show(alloc, node, &names, reason.wanted, wanted)
 }
 
 /// The rule of declared clocks that the clock of a variable breaks.
@@ -183,21 +190,55 @@ fn declared_rule(node: &ResolvedNode, variable: VariableId) -> ClockRule {
     }
 }
 
+/// A rule of clocks that is broken, with the offsets of what is at fault.
+#[derive(Clone, Copy)]
+struct PlacedReason {
+    reason: ClockReason,
+    offset: u32,
+    sign_offset: Option<u32>,
+}
+
+/// The reason for a part that is not there.
+const NO_REASON: PlacedReason = PlacedReason {
+    reason: ClockReason {
+        rule: ClockRule::Circle,
+        found: None,
+        wanted: None,
+    },
+    offset: 0,
+    sign_offset: None,
+};
+
+/// The reason why the declared clock of a variable breaks the rules of clocks.
+fn declared_reason(node: &ResolvedNode, variable: VariableId) -> PlacedReason {
+    PlacedReason {
+        reason: of_rule(declared_rule(node, variable)),
+        offset: clock_offset(node.tree, variable),
+        sign_offset: None,
+    }
+}
+
+/// The reason in a statement, with the offsets of what is at fault.
+fn placed_reason(found: Unclocked, statement: &Statement) -> PlacedReason {
+    let rule = found.reason.rule;
+    PlacedReason {
+        reason: found.reason,
+        offset: fault_offset(rule, found.site, statement),
+        sign_offset: fault_sign(rule, found.site),
+    }
+}
+
 /// The reason why a part of a node breaks the rules of clocks.
-fn part_reason(alloc: Global, env: &ClockEnv, part: Part) -> Result<ClockReason, AllocError> {
+fn part_reason(alloc: Global, env: &ClockEnv, part: Part) -> Result<PlacedReason, AllocError> {
     match part {
-        Part::Variable(variable) => Ok(of_rule(
-            declared_rule(env.node, variable),
-            clock_offset(env.node.tree, variable),
-        )),
-        Part::Statement(place) => {
-            match (env.node.body.get(place), env.node.tree.body.get(place)) {
-                (Some(resolved), Some(statement)) => {
-                    statement_reason(alloc, env, resolved, statement)
-                }
-                _ => Ok(of_rule(ClockRule::Circle, 0)),
+        Part::Variable(variable) => Ok(declared_reason(env.node, variable)),
+        Part::Statement(place) => match statement_at(env.node, place) {
+            Some(at) => {
+                let found = statement_reason(alloc, env, at)?;
+                Ok(placed_reason(found, at.statement))
             }
-        }
+            None => Ok(NO_REASON),
+        },
     }
 }
 
@@ -214,13 +255,17 @@ fn explain(
     let Some(node) = reached.nodes.get(found.node.0) else {
         return Ok(());
     };
-    let reason = part_reason(alloc, &ClockEnv { reached, node }, found.part)?;
-    fault.rule = reason.rule;
-    fault.offset = reason.offset;
-    fault.sign_offset = reason.sign_offset;
-    fault.found = shown(alloc, node, reason.found)?;
-    fault.wanted = shown(alloc, node, reason.wanted)?;
-    Ok(())
+    let placed = part_reason(alloc, &ClockEnv { reached, node }, found.part)?;
+    fault.rule = placed.reason.rule;
+    fault.offset = placed.offset;
+    fault.sign_offset = placed.sign_offset;
+    show_both(
+        alloc,
+        node,
+        placed.reason,
+        &mut fault.found,
+        &mut fault.wanted,
+    )
 }
 
 /// The error that this part breaks the rules of clocks.
@@ -235,16 +280,22 @@ pub fn clock_error(
         reached.now found.node found.part
         → IfOk result (λ e. IsAnswer P (Err e)) }
 {
+    let FaultyPart {
+        node,
+        part,
+        offset,
+        path,
+    } = faulty_part(alloc, reached, table, found, None)?;
     let mut fault = ClockFault {
-        node: name_of(alloc, reached, found.node)?,
-        part: found.part,
-        part_offset: part_offset(reached, found.node, found.part),
+        node,
+        part,
+        part_offset: offset,
         rule: ClockRule::Circle,
         offset: 0,
         sign_offset: None,
         found: None,
         wanted: None,
-        path: path_to(alloc, reached, table, found.node, None)?,
+        path,
     };
     explain(alloc, reached, found, &mut fault)?;
     Ok(CheckError::Clock(Box::new(alloc, fault)?))

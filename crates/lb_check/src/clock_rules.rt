@@ -25,7 +25,7 @@ ghost use Rattle.lb_check.specs.StoredClocks.{context_in};
 ghost use Rattle.lb_check.specs.TermClocks as mirror;
 ghost use Rattle.lb_check.specs.TypeRules.{is_typed};
 
-use crate::call_clock::{Given, is_call_clocked, result_clock};
+use crate::call_clock::{Given, is_call_clocked, left_operands, result_base};
 use crate::clock::ill_declared_clock;
 use crate::clock_set::{ClockSet, Operand};
 use crate::found_clocks::{CallClock, NodeClocks};
@@ -71,21 +71,36 @@ fn is_one_clocked(env: &ClockEnv, lefts: &[VariableId], clock_set: ClockSet) -> 
     clock_set.accepts_clock(Some(clock)) && are_on(env, clock, lefts)
 }
 
-/// The clock on which the callee of a call runs that is the whole right side of an equation.
-fn side_base(
+/// A call that is the whole right side of an equation.
+#[derive(Clone, Copy)]
+struct SideCall {
+    /// The clock on which its callee runs.
+    runs: Clock,
+    /// Whether the equation keeps the rules of clocks.
+    kept: bool,
+}
+
+/// Judges a call of this callee that is the whole right side of an equation.
+fn side_call(
     alloc: Global,
     env: &ClockEnv,
     callee: &ResolvedNode,
     operands: &[Operand],
     lefts: &[VariableId],
-) -> Result<Clock, AllocError>
-    ensures { IfOk result (λ base. base
+) -> Result<SideCall, AllocError>
+    ensures runs { IfOk result (λ call. call.runs
         ≡ placed_mirror.side_base (context_in env.now) callee.now operands.now lefts.now) }
+    ensures kept { IfOk result (λ call. call.kept
+        ≡ mirror.is_call_clocked (context_in env.now) callee.now operands.now lefts.now) }
 {
-    match result_clock(alloc, env, callee, operands, lefts)? {
-        Some(base) => Ok(base),
-        None => Ok(Clock::Base),
-    }
+    let results = left_operands(alloc, env, lefts)?;
+    let base = result_base(callee, operands, &results);
+    let kept = is_call_clocked(callee, base, operands, lefts, &results);
+    let runs = match base {
+        Some(base) => base,
+        None => Clock::Base,
+    };
+    Ok(SideCall { runs, kept })
 }
 
 /// Notes the clocks of a call of this callee that is the whole right side of an equation, and
@@ -107,8 +122,7 @@ fn place_called(
 {
     let row = infer_row(alloc, env, terms)?;
     let operands = row.operands.as_slice();
-    let kept = is_call_clocked(alloc, env, callee, operands, lefts)?;
-    let runs = side_base(alloc, env, callee, operands, lefts)?;
+    let SideCall { runs, kept } = side_call(alloc, env, callee, operands, lefts)?;
     let given = given_variables(alloc, callee, operands, lefts)?;
     placed.note_call(left_clock(env, lefts), CallClock { runs, given })?;
     let sources = &Given::Whole(callee.inputs, operands, lefts);

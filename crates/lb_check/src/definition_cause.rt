@@ -9,14 +9,14 @@ ghost use Rattle.lb_check.specs.BrokenRules.{IsBroken};
 ghost use Rattle.lb_check.specs.Correct.{IsAnswer};
 ghost use Rattle.lb_check.specs.DefinitionRules.{is_defined};
 
-use crate::cause::{declared_variable, name_of, part_offset, path_to, variable_offset};
+use crate::cause::{FaultyPart, declared_variable, faulty_part};
 use crate::definition_fault::{DefinitionFault, DefinitionRule};
 use crate::definition_rules::calls_function;
 use crate::error::CheckError;
 use crate::part::{IllFormed, Part};
-use crate::sites::{Site, left_offset, right_side};
-use lb_static::{CallId, Reached, ResolvedNode, ResolvedStatement, Table, Term, VariableId};
-use lb_syntax::Statement;
+use crate::sites::{Site, StatementSite, left_offset, statement_at};
+use lb_static::{Reached, ResolvedNode, ResolvedStatement, Table, Term, VariableId};
+use lb_syntax::{Expr, Name, Operator};
 use std::alloc::{AllocError, Global};
 
 /// A rule of definitions that a part breaks, with a name and an offset.
@@ -53,36 +53,27 @@ fn memory_of<'t>(reached: &Reached, node: &ResolvedNode, site: Site<'t>) -> Opti
     None
 }
 
-/// The reason for a call of a node in a function.
-fn call_reason<'a, 's>(
-    reached: &'a Reached<'s>,
-    node: &'a ResolvedNode<'s>,
-    call: CallId,
-) -> DefinitionReason<'a> {
-    let name = match reached.callee(node, call) {
-        Some(callee) => callee.tree.name.as_str(),
-        None => "",
-    };
-    let offset = match node.calls.get(call.0) {
-        Some(site) => site.offset,
-        None => 0,
-    };
-    DefinitionReason {
-        rule: DefinitionRule::NodeCall,
-        name,
-        offset,
+/// The name of the node that an expression calls or iterates, if it does.
+fn called_name<'t>(expr: &'t Expr) -> Option<&'t Name> {
+    match expr {
+        Expr::Call(name, _, _) => Some(name),
+        Expr::Iterate(_, operator, _, _, _) => match &**operator {
+            Operator::Node(name, _) => Some(name),
+            Operator::Symbol(_) => None,
+        },
+        _ => None,
     }
 }
 
 /// The reason for an operator with memory, or for a call of a node, in a function.
-fn memory_reason<'a, 's>(
-    reached: &'a Reached<'s>,
-    node: &'a ResolvedNode<'s>,
-    site: Site,
-) -> DefinitionReason<'a> {
-    match site.term {
-        Term::Call(call, _) | Term::IterateNode(_, call, _) => call_reason(reached, node, *call),
-        _ => DefinitionReason {
+fn memory_reason<'t>(site: Site<'t>) -> DefinitionReason<'t> {
+    match called_name(site.expr) {
+        Some(name) => DefinitionReason {
+            rule: DefinitionRule::NodeCall,
+            name: name.as_str(),
+            offset: name.offset,
+        },
+        None => DefinitionReason {
             rule: DefinitionRule::Memory,
             name: "",
             offset: site.sign_offset(),
@@ -98,18 +89,16 @@ const NO_REASON: DefinitionReason<'static> = DefinitionReason {
 };
 
 /// The reason why a statement of a function breaks the rules.
-fn statement_reason<'a, 's>(
-    reached: &'a Reached<'s>,
-    node: &'a ResolvedNode<'s>,
+fn statement_reason<'t>(
+    reached: &Reached,
+    node: &'t ResolvedNode,
     place: usize,
-) -> DefinitionReason<'a> {
-    let (Some(resolved), Some(statement)) = (node.body.get(place), node.tree.body.get(place)) else {
+) -> DefinitionReason<'t> {
+    let Some(at) = statement_at(node, place) else {
         return NO_REASON;
     };
-    let (ResolvedStatement::Equation(_, term) | ResolvedStatement::Assertion(term)) = resolved;
-    let expr = right_side(statement);
-    match memory_of(reached, node, Site { term, expr }) {
-        Some(site) => memory_reason(reached, node, site),
+    match memory_of(reached, node, at.right) {
+        Some(site) => memory_reason(site),
         None => NO_REASON,
     }
 }
@@ -127,14 +116,16 @@ fn variable_reason<'a, 's>(
     } else {
         DefinitionRule::Undefined
     };
-    let name = match declared_variable(node.tree, variable) {
-        Some(declared) => declared.name.as_str(),
-        None => "",
-    };
-    DefinitionReason {
-        rule,
-        name,
-        offset: variable_offset(node.tree, variable),
+    match declared_variable(node.tree, variable) {
+        Some(declared) => {
+            let name = declared.name;
+            DefinitionReason {
+                rule,
+                name: name.as_str(),
+                offset: name.offset,
+            }
+        }
+        None => NO_REASON,
     }
 }
 
@@ -155,32 +146,34 @@ fn part_reason<'a, 's>(
 fn note_lefts(
     definitions: &mut Vec<u32>,
     variable: VariableId,
-    resolved: &ResolvedStatement,
-    statement: &Statement,
+    at: StatementSite,
 ) -> Result<(), AllocError> {
-    let ResolvedStatement::Equation(lefts, _) = resolved else {
+    let ResolvedStatement::Equation(lefts, _) = at.resolved else {
         return Ok(());
     };
     for (place, left) in lefts.iter().enumerate() {
         if left.0 == variable.0 {
-            definitions.push(left_offset(statement, place))?;
+            definitions.push(left_offset(at.statement, place))?;
         }
     }
     Ok(())
 }
 
-/// The offsets at which a part that is a variable stands on left sides.
-fn definitions_of(alloc: Global, node: &ResolvedNode, part: Part) -> Result<Vec<u32>, AllocError> {
-    let mut definitions = Vec::new(alloc);
+/// Notes the offsets at which a part that is a variable stands on left sides.
+fn note_definitions(
+    definitions: &mut Vec<u32>,
+    node: &ResolvedNode,
+    part: Part,
+) -> Result<(), AllocError> {
     let Part::Variable(variable) = part else {
-        return Ok(definitions);
+        return Ok(());
     };
-    for (place, statement) in node.tree.body.iter().enumerate() {
-        if let Some(resolved) = node.body.get(place) {
-            note_lefts(&mut definitions, variable, resolved, statement)?;
+    for place in 0..node.body.len() {
+        if let Some(at) = statement_at(node, place) {
+            note_lefts(definitions, variable, at)?;
         }
     }
-    Ok(definitions)
+    Ok(())
 }
 
 /// Adds the reason to a fault of definitions.
@@ -196,7 +189,7 @@ fn explain(
     let Some(node) = reached.nodes.get(found.node.0) else {
         return Ok(());
     };
-    fault.definitions = definitions_of(alloc, node, found.part)?;
+    note_definitions(&mut fault.definitions, node, found.part)?;
     let reason = part_reason(reached, node, found.part, !fault.definitions.is_empty());
     fault.rule = reason.rule;
     fault.name = String::from_str(alloc, reason.name)?;
@@ -216,15 +209,21 @@ pub fn definition_error(
         reached.now found.node found.part
         → IfOk result (λ e. IsAnswer P (Err e)) }
 {
+    let FaultyPart {
+        node,
+        part,
+        offset,
+        path,
+    } = faulty_part(alloc, reached, table, found, None)?;
     let mut fault = DefinitionFault {
-        node: name_of(alloc, reached, found.node)?,
-        part: found.part,
-        part_offset: part_offset(reached, found.node, found.part),
+        node,
+        part,
+        part_offset: offset,
         rule: DefinitionRule::Undefined,
         name: String::new(alloc),
         offset: 0,
         definitions: Vec::new(alloc),
-        path: path_to(alloc, reached, table, found.node, None)?,
+        path,
     };
     explain(alloc, reached, found, &mut fault)?;
     Ok(CheckError::Definition(Box::new(alloc, fault)?))

@@ -31,6 +31,7 @@ mod shared;
 mod signature;
 mod sites;
 mod term_clock;
+mod told_types;
 mod type_cause;
 mod type_env;
 mod type_fault;

@@ -19,7 +19,7 @@ ghost use Rattle.lb_check.specs.TermTypes.{context_of, is_resolved_statement_typ
 use crate::part_types::PartTypes;
 use crate::type_env::TypeEnv;
 use crate::type_rules::is_statement_typed;
-use lb_static::{NodeId, Reached, Specialization, SpecializationId, StaticInt, Table};
+use lb_static::{NodeId, Reached, Specialization, SpecializationId, StaticInt, Table, part_of};
 use std::alloc::{AllocError, Global};
 
 /// The shared part of some specializations of a node.
@@ -34,32 +34,29 @@ pub struct SharedPart {
     pub settled: Vec<bool>,
 }
 
-/// The shared value of two static values: -1 where they differ.
-fn shared_value(one: StaticInt, other: StaticInt) -> StaticInt {
-    if one.get() == other.get() {
-        one
-    } else {
-        StaticInt::from_int(-1)
+/// Narrows shared values to those that these values share too: -1 stands where they differ.
+fn narrow_values(shared: &mut [StaticInt], values: &[StaticInt]) {
+    for (place, value) in values.iter().enumerate() {
+        if place < shared.len() && shared[place].get() != value.get() {
+            shared[place] = StaticInt::from_int(-1);
+        }
     }
 }
 
-/// The shared callee of two callees: a number past all specializations where they differ.
-fn shared_callee(one: SpecializationId, other: SpecializationId) -> SpecializationId {
-    if one.0 == other.0 {
-        one
-    } else {
-        SpecializationId(u32::MAX)
+/// Narrows shared callees to those that these callees share too: a number past all specializations
+/// stands where they differ.
+fn narrow_callees(shared: &mut [SpecializationId], callees: &[SpecializationId]) {
+    for (place, callee) in callees.iter().enumerate() {
+        if place < shared.len() && shared[place].0 != callee.0 {
+            shared[place] = SpecializationId(u32::MAX);
+        }
     }
 }
 
 /// Narrows a shared part to what this specialization shares too.
 fn narrow(shared: &mut Specialization, specialization: &Specialization) {
-    for (value, other) in shared.statics.iter_mut().zip(specialization.statics.iter()) {
-        *value = shared_value(*value, *other);
-    }
-    for (callee, other) in shared.callees.iter_mut().zip(specialization.callees.iter()) {
-        *callee = shared_callee(*callee, *other);
-    }
+    narrow_values(&mut shared.statics, &specialization.statics);
+    narrow_callees(&mut shared.callees, &specialization.callees);
 }
 
 /// A copy of a specialization, without the values of its static parameters.
@@ -95,7 +92,7 @@ fn shared_specializations(
     for _ in 0..reached.nodes.len() {
         all.push(blank(alloc, reached))?;
     }
-    for specialization in table.specializations.iter().skip(from) {
+    for specialization in part_of(&table.specializations, from, table.specializations.len()) {
         if let Some(shared) = all.get_mut(specialization.node.0) {
             if shared.node.0 == specialization.node.0 {
                 narrow(shared, specialization);

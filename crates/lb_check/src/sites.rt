@@ -3,7 +3,7 @@
 ghost use Rattle.std.specs.Prelude.{◌<◌, IfSome};
 ghost use Rattle.lb_static.specs.declared.resolved.Term.{size-Term};
 
-use lb_static::Term;
+use lb_static::{ResolvedNode, ResolvedStatement, Term};
 use lb_syntax::{Expr, Statement};
 
 /// A term, and the expression of which it was made.
@@ -135,4 +135,24 @@ pub fn ungrouped<'t>(term: &'t Term, expr: &'t Expr) -> Site<'t> {
         Term::Group(inner) => ungrouped(inner, operand_at(expr, 0)),
         _ => Site { term, expr },
     }
+}
+
+/// A statement of a node, with its right side, or its assertion, without the parentheses around it.
+#[derive(Clone, Copy)]
+pub struct StatementSite<'t> {
+    pub resolved: &'t ResolvedStatement,
+    pub statement: &'t Statement,
+    pub right: Site<'t>,
+}
+
+/// The statement of a node at a place, if there is one.
+pub fn statement_at<'t>(node: &'t ResolvedNode, place: usize) -> Option<StatementSite<'t>> {
+    let resolved = node.body.get(place)?;
+    let statement = node.tree.body.get(place)?;
+    let (ResolvedStatement::Equation(_, term) | ResolvedStatement::Assertion(term)) = resolved;
+    Some(StatementSite {
+        resolved,
+        statement,
+        right: ungrouped(term, right_side(statement)),
+    })
 }

@@ -12,19 +12,20 @@ ghost use Rattle.lb_check.specs.BrokenRules.{IsBroken};
 ghost use Rattle.lb_check.specs.Correct.{IsAnswer};
 ghost use Rattle.lb_check.specs.TypeRules.{is_typed};
 
-use crate::cause::{clock_offset, name_of, part_offset, path_to};
+use crate::array_types::array_of;
+use crate::call_reason::first_unfit;
+use crate::cause::{FaultyPart, clock_offset, faulty_part};
 use crate::error::CheckError;
 use crate::judged_types::IllTyped;
 use crate::operand_types::{common_type, when_truth};
-use crate::part::Part;
-use crate::signature::{array_type, only_given, signature_of};
-use crate::sites::{Site, left_offset, right_side, ungrouped};
+use crate::part::{IllFormed, Part};
+use crate::signature::{only_given, signature_of};
+use crate::sites::{Site, StatementSite, left_offset, right_side, statement_at};
+use crate::told_types::{add_results, tell, tell_one};
 use crate::type_env::TypeEnv;
 use crate::type_fault::{SourceType, TypeFault, TypeRule};
-use crate::type_reason::{TypeReason, Typed, of_rule, type_reason, types_differ};
-use crate::types::{
-    fits_too, given_where, has_arity, like_later, one_type, results, two_types, type_of,
-};
+use crate::type_reason::{TypeReason, Typed, first_unlike, of_rule, type_reason};
+use crate::types::{given_where, has_arity, one_type, two_types, type_of};
 use lb_static::{DataType, Reached, ResolvedStatement, Table, Term, Variable, VariableId};
 use lb_syntax::{Kind, Statement};
 use std::alloc::{AllocError, Global};
@@ -34,83 +35,83 @@ fn row_type(
     alloc: Global,
     env: &TypeEnv,
     term: &Term,
-    operands: Vec<DataType>,
+    types: &[DataType],
 ) -> Result<Option<DataType>, AllocError> {
-    let count = operands.len();
-    let signature = signature_of(alloc, env, term, count)?;
-    let mut fits = has_arity(&signature, count);
-    for (place, own) in operands.iter().enumerate() {
-        fits = fits && signature.takes.is_at(place, own);
-    }
+    let signature = signature_of(alloc, env, term, types.len())?;
+    let fits = has_arity(&signature, types.len()) && first_unfit(&signature.takes, types).is_none();
     only_given(alloc, &given_where(fits, signature.gives))
 }
 
-/// The type of a list of elements of these types.
-fn list_type(elements: Vec<DataType>) -> Result<Option<DataType>, AllocError> {
-    let count = elements.len();
-    let mut element = None;
-    for (place, own) in elements.into_iter().enumerate() {
-        element = like_later(place, Some(own), element);
+/// The type of a list of elements of these types, the last of which is taken out.
+fn list_type(types: &mut Vec<DataType>) -> Result<Option<DataType>, AllocError> {
+    let count = types.len() as u64;
+    let Some(last) = types.pop() else {
+        return Ok(None);
+    };
+    match first_unlike(types, last.kind, &last.sizes) {
+        Some(_) => Ok(None),
+        None => array_of(count, last),
     }
-    array_type(count as u64, element)
 }
 
-/// The type of a term with three operands or fewer, of these types.
+/// The type of a term with three operands or fewer, of these types, which are taken out.
 fn few_type(
     alloc: Global,
     env: &TypeEnv,
     term: &Term,
-    operands: Vec<DataType>,
+    types: &mut Vec<DataType>,
 ) -> Result<Option<DataType>, AllocError> {
-    let mut types = operands;
-    let right = types.pop();
-    let left = types.pop();
-    match (types.pop(), left, right) {
-        (None, None, None) => type_of(alloc, env, term),
-        (None, None, Some(operand)) => one_type(alloc, env, term, operand),
-        (None, left, right) => two_types(alloc, term, left, right),
-        (condition, left, right) => Ok(when_truth(condition, common_type(left, right))),
+    let Some(last) = types.pop() else {
+        return type_of(alloc, env, term);
+    };
+    let Some(left) = types.pop() else {
+        return one_type(alloc, env, term, last);
+    };
+    match types.pop() {
+        Some(condition) => { Ok(when_truth(Some(condition), common_type(Some(left), Some(last)))) }
+        None => two_types(alloc, term, Some(left), Some(last)),
     }
 }
 
-/// The type of a term with operands of these types, if it has one.
+/// The type of a term with operands of these types, if it has one. The types may be taken out.
 fn type_from(
     alloc: Global,
     env: &TypeEnv,
     term: &Term,
-    operands: Vec<DataType>,
+    types: &mut Vec<DataType>,
 ) -> Result<Option<DataType>, AllocError> {
     match term {
-        Term::Array(_) => list_type(operands),
+        Term::Array(_) => list_type(types),
         Term::AtMostOne(_)
         | Term::Nor(_)
         | Term::Call(_, _)
         | Term::IterateNode(_, _, _)
-        | Term::IterateSymbol(_, _, _, _) => row_type(alloc, env, term, operands),
-        _ => few_type(alloc, env, term, operands),
+        | Term::IterateSymbol(_, _, _, _) => row_type(alloc, env, term, types),
+        _ => few_type(alloc, env, term, types),
     }
 }
 
-/// The types of the operands of a term, if each has one. Where one has none, `untyped` is the first
-/// part of it that has none, though each operand of that part has one.
+/// Adds the types of the operands of a term, and returns whether each operand has one. Where one
+/// has none, `untyped` is the first part of it that has none, though each operand of that part has
+/// one.
 #[cycle(typings)]
 fn typed_operands<'t>(
     alloc: Global,
     env: &TypeEnv,
     site: Site<'t>,
+    types: &mut Vec<DataType>,
     untyped: &mut Site<'t>,
-) -> Result<Option<Vec<DataType>>, AllocError> {
-    let mut types = Vec::new(alloc);
+) -> Result<bool, AllocError> {
     for place in 0..usize::MAX {
         let Some(operand) = site.operand(place) else {
             break;
         };
         match typed_term(alloc, env, operand, untyped)? {
             Some(data_type) => types.push(data_type)?,
-            None => return Ok(None),
+            None => return Ok(false),
         }
     }
-    Ok(Some(types))
+    Ok(true)
 }
 
 /// The type of a term, if it has one: each part is looked at once. Where it has none, `untyped` is
@@ -122,92 +123,22 @@ fn typed_term<'t>(
     site: Site<'t>,
     untyped: &mut Site<'t>,
 ) -> Result<Option<DataType>, AllocError> {
-    let Some(types) = typed_operands(alloc, env, site, untyped)? else {
+    let mut types = Vec::new(alloc);
+    if !typed_operands(alloc, env, site, &mut types, untyped)? {
         return Ok(None);
-    };
-    let own = type_from(alloc, env, site.term, types)?;
+    }
+    let own = type_from(alloc, env, site.term, &mut types)?;
     if own.is_none() {
         *untyped = site;
     }
     Ok(own)
 }
 
-/// Whether a left variable has the type of its result.
-fn is_like(
-    alloc: Global,
-    env: &TypeEnv,
-    left: VariableId,
-    right: Option<&DataType>,
-) -> Result<bool, AllocError> {
-    match (env.variable(alloc, left)?, right) {
-        (Some(declared), Some(right)) => Ok(right.equals(&declared)),
-        _ => Ok(false),
-    }
-}
-
-/// The place of the first left variable that has another type than its result.
-fn first_unlike(
-    alloc: Global,
-    env: &TypeEnv,
-    lefts: &[VariableId],
-    rights: &[DataType],
-) -> Result<usize, AllocError> {
-    for (place, left) in lefts.iter().enumerate() {
-        if !is_like(alloc, env, *left, rights.get(place))? {
-            return Ok(place);
-        }
-    }
-    Ok(0)
-}
-
-/// The reason why an equation breaks the rules whose right side has results of these types.
-fn lefts_reason<'t>(
-    alloc: Global,
-    env: &TypeEnv,
-    lefts: &[VariableId],
-    right: &'t Term,
-    rights: &[DataType],
-    statement: &Statement,
-) -> Result<TypeReason<'t>, AllocError> {
-    let (found, wanted) = (lefts.len(), rights.len());
-    if found != wanted {
-        let rule = TypeRule::LeftCount { found, wanted };
-        let all = Typed::Results(right, None);
-        return Ok(types_differ(rule, left_offset(statement, 0), all, Typed::Nothing));
-    }
-    let place = first_unlike(alloc, env, lefts, rights)?;
-    let declared = match lefts.get(place) {
-        Some(left) => Typed::Variable(*left),
-        None => Typed::Nothing,
-    };
-    Ok(types_differ(
-        TypeRule::Left(place.saturating_add(1)),
-        left_offset(statement, place),
-        Typed::Results(right, Some(place)),
-        declared,
-    ))
-}
-
-/// The reason why a statement breaks the rules whose right side, or whose assertion, has results of
-/// these types.
-fn results_reason<'t>(
-    alloc: Global,
-    env: &TypeEnv,
-    resolved: &'t ResolvedStatement,
-    statement: &Statement,
-    rights: &[DataType],
-) -> Result<TypeReason<'t>, AllocError> {
-    match resolved {
-        ResolvedStatement::Equation(lefts, right) => {
-            lefts_reason(alloc, env, lefts, right, rights, statement)
-        }
-        ResolvedStatement::Assertion(term) => Ok(types_differ(
-            TypeRule::Assertion,
-            right_side(statement).offset(),
-            Typed::Results(term, None),
-            Typed::Scalar(Kind::Bool),
-        )),
-    }
+/// A term that has no type, or the right side of a statement that breaks a rule, and why.
+#[derive(Clone, Copy)]
+struct Untyped<'t> {
+    site: Site<'t>,
+    reason: TypeReason<'t>,
 }
 
 /// The reason why a part of a term, or the term itself, has no type.
@@ -215,13 +146,67 @@ fn untyped_reason<'t>(
     alloc: Global,
     env: &TypeEnv<'t, '_>,
     whole: Site<'t>,
-) -> Result<TypeReason<'t>, AllocError> {
+) -> Result<Untyped<'t>, AllocError> {
     let mut site = whole;
     typed_term(alloc, env, whole, &mut site)?;
+    let mut types = Vec::new(alloc);
     let mut within = site;
-    match typed_operands(alloc, env, site, &mut within)? {
-        Some(types) => type_reason(alloc, env, site, &types),
-        None => Ok(of_rule(TypeRule::Length, site.offset())),
+    typed_operands(alloc, env, site, &mut types, &mut within)?;
+    let reason = type_reason(alloc, env, site.term, &types)?;
+    Ok(Untyped { site, reason })
+}
+
+/// Whether a left variable has the type of its result.
+fn is_like(
+    alloc: Global,
+    env: &TypeEnv,
+    left: VariableId,
+    right: Option<&SourceType>,
+) -> Result<bool, AllocError> {
+    match (env.variable(alloc, left)?, right) {
+        (Some(declared), Some(right)) => {
+            Ok(declared.kind == right.kind && declared.sizes == right.sizes)
+        }
+        _ => Ok(false),
+    }
+}
+
+/// The reason why an equation breaks the rules whose right side has results of these types.
+fn lefts_reason<'t>(
+    alloc: Global,
+    env: &TypeEnv,
+    lefts: &[VariableId],
+    rights: &[SourceType],
+) -> Result<TypeReason<'t>, AllocError> {
+    let (found, wanted) = (lefts.len(), rights.len());
+    if found != wanted {
+        return Ok(of_rule(TypeRule::LeftCount { found, wanted }));
+    }
+    for (place, left) in lefts.iter().enumerate() {
+        if !is_like(alloc, env, *left, rights.get(place))? {
+            return Ok(TypeReason {
+                rule: TypeRule::Left(place.saturating_add(1)),
+                wanted: Typed::Variable(*left),
+            });
+        }
+    }
+    Ok(of_rule(TypeRule::Left(1)))
+}
+
+/// The reason why a statement breaks the rules whose right side, or whose assertion, has results of
+/// these types.
+fn results_reason<'t>(
+    alloc: Global,
+    env: &TypeEnv,
+    resolved: &ResolvedStatement,
+    rights: &[SourceType],
+) -> Result<TypeReason<'t>, AllocError> {
+    match resolved {
+        ResolvedStatement::Equation(lefts, _) => lefts_reason(alloc, env, lefts, rights),
+        ResolvedStatement::Assertion(_) => Ok(TypeReason {
+            rule: TypeRule::Assertion,
+            wanted: Typed::Scalar(Kind::Bool),
+        }),
     }
 }
 
@@ -229,18 +214,79 @@ fn untyped_reason<'t>(
 fn statement_reason<'t>(
     alloc: Global,
     env: &TypeEnv<'t, '_>,
-    resolved: &'t ResolvedStatement,
-    statement: &'t Statement,
-) -> Result<TypeReason<'t>, AllocError> {
-    let (ResolvedStatement::Equation(_, term) | ResolvedStatement::Assertion(term)) = resolved;
-    match results(alloc, env, term)? {
-        Some(rights) => results_reason(alloc, env, resolved, statement, &rights),
-        None => untyped_reason(alloc, env, ungrouped(term, right_side(statement))),
+    at: StatementSite<'t>,
+) -> Result<Untyped<'t>, AllocError> {
+    let site = at.right;
+    let mut rights = Vec::new(alloc);
+    if !add_results(alloc, env, site.term, None, &mut rights)? {
+        return untyped_reason(alloc, env, site);
+    }
+    let reason = results_reason(alloc, env, at.resolved, &rights)?;
+    Ok(Untyped { site, reason })
+}
+
+/// The offset of what is at fault: a left variable, an operand or an argument, or a whole term.
+fn fault_offset(rule: TypeRule, site: Site, statement: &Statement) -> u32 {
+    match rule {
+        TypeRule::Operand(count) | TypeRule::Argument(count) => {
+            site.part(count.saturating_sub(1)).offset()
+        }
+        TypeRule::ClockVariable | TypeRule::Index => site.inner_offset(),
+        TypeRule::Left(count) => left_offset(statement, count.saturating_sub(1)),
+        TypeRule::LeftCount { .. } => left_offset(statement, 0),
+        TypeRule::Assertion => right_side(statement).offset(),
+        _ => site.offset(),
     }
 }
 
+/// The offset of the sign of the operator whose operand is at fault.
+fn fault_sign(rule: TypeRule, site: Site) -> Option<u32> {
+    match rule {
+        TypeRule::Operand(_) | TypeRule::ClockVariable | TypeRule::Index => {
+            Some(site.sign_offset())
+        }
+        _ => None,
+    }
+}
+
+/// The source of the types of what is at fault.
+fn fault_types<'t>(rule: TypeRule, site: Site<'t>) -> Typed<'t> {
+    match (rule, site.term) {
+        (TypeRule::Operand(count) | TypeRule::Argument(count), _) => {
+            Typed::Results(site.part(count.saturating_sub(1)).term, None)
+        }
+        (TypeRule::Index, _) => Typed::Results(site.part(0).term, None),
+        (TypeRule::ClockVariable, Term::When(_, x, _)) => Typed::Variable(*x),
+        (TypeRule::Left(count), term) => Typed::Results(term, Some(count.saturating_sub(1))),
+        (TypeRule::LeftCount { .. } | TypeRule::ResultCount | TypeRule::Assertion, term) => {
+            Typed::Results(term, None)
+        }
+        _ => Typed::Nothing,
+    }
+}
+
+/// A rule of types that is broken, with the offsets of what is at fault, the source of its types,
+/// and the source of the type that is wanted.
+#[derive(Clone, Copy)]
+struct PlacedReason<'t> {
+    rule: TypeRule,
+    offset: u32,
+    sign_offset: Option<u32>,
+    found: Typed<'t>,
+    wanted: Typed<'t>,
+}
+
+/// The reason for a part that is not there.
+const NO_REASON: PlacedReason<'static> = PlacedReason {
+    rule: TypeRule::Assertion,
+    offset: 0,
+    sign_offset: None,
+    found: Typed::Nothing,
+    wanted: Typed::Nothing,
+};
+
 /// The reason for a variable of a declared clock that is no truth.
-fn clock_reason<'t>(env: &TypeEnv<'t, '_>, variable: VariableId) -> TypeReason<'t> {
+fn declared_reason<'t>(env: &TypeEnv, variable: VariableId) -> PlacedReason<'t> {
     let found = match env.node.variables.get(variable.0) {
         Some(
             Variable {
@@ -250,13 +296,25 @@ fn clock_reason<'t>(env: &TypeEnv<'t, '_>, variable: VariableId) -> TypeReason<'
         ) => Typed::Variable(clock.variable),
         _ => Typed::Nothing,
     };
-    let offset = clock_offset(env.node.tree, variable);
-    types_differ(
-        TypeRule::ClockVariable,
-        offset,
+    PlacedReason {
+        rule: TypeRule::ClockVariable,
+        offset: clock_offset(env.node.tree, variable),
+        sign_offset: None,
         found,
-        Typed::Scalar(Kind::Bool),
-    )
+        wanted: Typed::Scalar(Kind::Bool),
+    }
+}
+
+/// The reason in a statement, with the offsets of what is at fault and the source of its types.
+fn placed_reason<'t>(found: Untyped<'t>, statement: &Statement) -> PlacedReason<'t> {
+    let rule = found.reason.rule;
+    PlacedReason {
+        rule,
+        offset: fault_offset(rule, found.site, statement),
+        sign_offset: fault_sign(rule, found.site),
+        found: fault_types(rule, found.site),
+        wanted: found.reason.wanted,
+    }
 }
 
 /// The reason why a part of a specialization breaks the rules of types.
@@ -264,66 +322,17 @@ fn part_reason<'t>(
     alloc: Global,
     env: &TypeEnv<'t, '_>,
     part: Part,
-) -> Result<TypeReason<'t>, AllocError> {
+) -> Result<PlacedReason<'t>, AllocError> {
     match part {
-        Part::Variable(variable) => Ok(clock_reason(env, variable)),
-        Part::Statement(place) => {
-            match (env.node.body.get(place), env.node.tree.body.get(place)) {
-                (Some(resolved), Some(statement)) => {
-                    statement_reason(alloc, env, resolved, statement)
-                }
-                _ => Ok(of_rule(TypeRule::Assertion, 0)),
+        Part::Variable(variable) => Ok(declared_reason(env, variable)),
+        Part::Statement(place) => match statement_at(env.node, place) {
+            Some(at) => {
+                let found = statement_reason(alloc, env, at)?;
+                Ok(placed_reason(found, at.statement))
             }
-        }
+            None => Ok(NO_REASON),
+        },
     }
-}
-
-/// The type that is reported, where it is not that of a result.
-fn told_type(alloc: Global, env: &TypeEnv, typed: Typed) -> Result<Option<DataType>, AllocError> {
-    match typed {
-        Typed::Nothing | Typed::Results(_, _) => Ok(None),
-        Typed::Scalar(kind) => Ok(Some(DataType::scalar(alloc, kind))),
-        Typed::Variable(x) => env.variable(alloc, x),
-        Typed::Input(row, place) => row.get(alloc, place),
-    }
-}
-
-/// Adds a type as it is written.
-fn add_type(types: &mut Vec<SourceType>, data_type: DataType) -> Result<(), AllocError> {
-    types.push(SourceType {
-        kind: data_type.kind,
-        sizes: data_type.sizes,
-    })?;
-    Ok(())
-}
-
-/// Adds the types of the results of a term, or of the one at a place alone.
-fn add_results(
-    alloc: Global,
-    env: &TypeEnv,
-    term: &Term,
-    only: Option<usize>,
-    types: &mut Vec<SourceType>,
-) -> Result<(), AllocError> {
-    if let Some(data_types) = results(alloc, env, term)? {
-        for (place, data_type) in data_types.into_iter().enumerate() {
-            if place == only.unwrap_or(place) {
-                add_type(types, data_type)?;
-            }
-        }
-    }
-    Ok(())
-}
-
-/// The types that are reported.
-fn told_types(alloc: Global, env: &TypeEnv, typed: Typed) -> Result<Vec<SourceType>, AllocError> {
-    let mut types = Vec::new(alloc);
-    if let Typed::Results(term, only) = typed {
-        add_results(alloc, env, term, only, &mut types)?;
-    } else if let Some(data_type) = told_type(alloc, env, typed)? {
-        add_type(&mut types, data_type)?;
-    }
-    Ok(types)
 }
 
 /// Adds the reason to a fault of types.
@@ -353,9 +362,8 @@ fn explain(
     fault.rule = reason.rule;
     fault.offset = reason.offset;
     fault.sign_offset = reason.sign_offset;
-    fault.found = told_types(alloc, env, reason.found)?;
-    fault.wanted = told_types(alloc, env, reason.wanted)?.pop();
-    Ok(())
+    tell(alloc, env, reason.found, &mut fault.found)?;
+    tell_one(alloc, env, reason.wanted, &mut fault.wanted)
 }
 
 /// The error that this part breaks the rules of types.
@@ -369,16 +377,26 @@ pub fn type_error(
         → IsBroken (is_typed P) (is_part_typed P) P reached.now found.node found.part
         → IfOk result (λ e. IsAnswer P (Err e)) }
 {
-    let mut fault = TypeFault {
-        node: name_of(alloc, reached, found.node)?,
+    let ill_formed = IllFormed {
+        node: found.node,
         part: found.part,
-        part_offset: part_offset(reached, found.node, found.part),
+    };
+    let FaultyPart {
+        node,
+        part,
+        offset,
+        path,
+    } = faulty_part(alloc, reached, table, ill_formed, Some(found.place))?;
+    let mut fault = TypeFault {
+        node,
+        part,
+        part_offset: offset,
         rule: TypeRule::Assertion,
         offset: 0,
         sign_offset: None,
         found: Vec::new(alloc),
         wanted: None,
-        path: path_to(alloc, reached, table, found.node, Some(found.place))?,
+        path,
     };
     explain(alloc, reached, table, found, &mut fault)?;
     Ok(CheckError::Type(Box::new(alloc, fault)?))

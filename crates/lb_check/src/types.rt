@@ -128,7 +128,7 @@ fn walk_leaf(
 
 /// The type of the elements of a list: `own` of one, together with `later` of the `seen` ones
 /// behind it.
-pub fn like_later(seen: usize, own: Option<DataType>, later: Option<DataType>) -> Option<DataType>
+fn like_later(seen: usize, own: Option<DataType>, later: Option<DataType>) -> Option<DataType>
     ensures { option_map view_type result ≡ signatures.like_later seen
         (option_map view_type own) (option_map view_type later) }
 {
@@ -140,7 +140,7 @@ pub fn like_later(seen: usize, own: Option<DataType>, later: Option<DataType>) -
 }
 
 /// Whether an operand has the type that is wanted at its place, and those behind it fit (`fits`).
-pub fn fits_too(fits: bool, wanted: &TypeRow, place: usize, own: &Option<DataType>) -> bool
+fn fits_too(fits: bool, wanted: &TypeRow, place: usize, own: &Option<DataType>) -> bool
     ensures { result ≡ (fits && signatures.are_one
         (signatures.type_at (signatures.row_in wanted.now) place) (option_map view_type own.now)) }
 {
@@ -413,34 +413,5 @@ pub fn side_types<'a>(
             Ok(SideTypes::Single(own))
         }
         _ => Ok(SideTypes::Single(walk(alloc, env, term, parts)?)),
-    }
-}
-
-/// The types of a row, if all are there.
-fn row_types(alloc: Global, row: &TypeRow) -> Result<Option<Vec<DataType>>, AllocError> {
-    let mut types = Vec::new(alloc);
-    for place in 0..row.len() {
-        match row.get(alloc, place)? {
-            Some(data_type) => types.push(data_type)?,
-            None => return Ok(None),
-        }
-    }
-    Ok(Some(types))
-}
-
-/// The types of the results of a right side, or none where a rule of types is broken.
-pub fn results(
-    alloc: Global,
-    env: &TypeEnv,
-    term: &Term,
-) -> Result<Option<Vec<DataType>>, AllocError> {
-    match side_types(alloc, env, term, &mut PartTypes::none(alloc))? {
-        SideTypes::Single(Some(data_type)) => {
-            let mut types = Vec::new(alloc);
-            types.push(data_type)?;
-            Ok(Some(types))
-        }
-        SideTypes::Several(Some(given)) => row_types(alloc, &given),
-        _ => Ok(None),
     }
 }

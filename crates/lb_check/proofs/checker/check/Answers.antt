@@ -1,40 +1,50 @@
 -- The answer is the broken rule that is found; else what is found of clocks and types is kept.
+use Rattle.std.specs.Prelude.{◌≡◌, Result, Err, IsErrAnd}
+use Rattle.std.proofs.lemmas.Result.{err_from_is_err_and}
+use Rattle.lb_static.specs.Instances.{Program}
+use Rattle.lb_check.specs.Correct.{IsAnswer}
+use Rattle.lb_check.specs.declared.checked.Checked.{Checked}
+use Rattle.lb_check.specs.declared.error.CheckError.{CheckError}
 use Rattle.lb_check.proofs.{Words.elaborated_program, clocking.FoundClocks.found_here}
-use Rattle.std.proofs.lemmas.Result.{IfOk-at_ok, MatchResult-at_err, MatchResult-at_ok}
 use Rattle.lb_check.proofs.definitions.BrokenRules.{judged_here}
 use Rattle.lb_check.proofs.typing.FoundTypes.{types_found_here}
 use Rattle.lb_check.proofs.checker.check.Goals as goal
 
-pub returns-in-Err-clause-answer : goal.returns-in-Err-clause-answer
-returns-in-Err-clause-answer c =
-    MatchResult-at_err _ _ c.in-Err.error c.in-Err.is
-    (c.in_ok-error.ensures.answer (elaborated_program c.args.elab)
+-- the answer is the error that is passed on
+passed_on : (P : Program) (r : Result Checked CheckError) (e : CheckError)
+    → IsErrAnd r (λ y. y ≡ e) → IsAnswer P (Err e) → IsAnswer P r
+passed_on P r e gives h =
+    let p = err_from_is_err_and r gives in
+    rw (p.1, p.2) h
+
+pub returns-in_err-found-clause-answer : goal.returns-in_err-found-clause-answer
+returns-in_err-found-clause-answer c =
+    let P = elaborated_program c.args.elab in
+    passed_on P c.from_residual.result c.in_err-found.field-0.0 c.from_residual.ensures.1
+    (c.in_err-found.ensures.answer P
     (judged_here c.args.elab c.reached.result.now c.table.result.now c.reached.ensures.lawful
     c.reached.ensures.value c.table.ensures.value))
 
 pub new-requires : goal.new-requires
 new-requires c =
     let kept =
-    MatchResult-at_ok _ _ c.in-Ok.found c.in-Ok.is
-    (c.in_ok-error.ensures.answer (elaborated_program c.args.elab)
+    c.in_ok-found.ensures.answer (elaborated_program c.args.elab)
     (judged_here c.args.elab c.reached.result.now c.table.result.now c.reached.ensures.lawful
-    c.reached.ensures.value c.table.ensures.value)) in
+    c.reached.ensures.value c.table.ensures.value) in
     record {
       elaborated = c.reached.ensures.lawful;
       accepted = kept;
       clocks =
-          found_here c.args.elab c.reached.result.now c.in-Ok.found.clocks.items
-          c.reached.ensures.lawful c.reached.ensures.value kept
-          (IfOk-at_ok _ c.in-Ok.is c.in_ok-error.ensures.clocks);
+          found_here c.args.elab c.reached.result.now c.in_ok-found.found.clocks.items
+          c.reached.ensures.lawful c.reached.ensures.value kept c.in_ok-found.ensures.clocks;
       types =
           types_found_here c.args.elab c.reached.result.now c.table.result.now
-          c.in-Ok.found.types c.reached.ensures.lawful c.reached.ensures.value
-          c.table.ensures.value (IfOk-at_ok _ c.in-Ok.is c.in_ok-error.ensures.types);
+          c.in_ok-found.found.types c.reached.ensures.lawful c.reached.ensures.value
+          c.table.ensures.value c.in_ok-found.ensures.types;
     }
 
 pub returns-clause-answer : goal.returns-clause-answer
 returns-clause-answer c =
-    MatchResult-at_ok _ _ c.in-Ok.found c.in-Ok.is
-    (c.in_ok-error.ensures.answer (elaborated_program c.args.elab)
+    c.in_ok-found.ensures.answer (elaborated_program c.args.elab)
     (judged_here c.args.elab c.reached.result.now c.table.result.now c.reached.ensures.lawful
-    c.reached.ensures.value c.table.ensures.value))
+    c.reached.ensures.value c.table.ensures.value)

@@ -8,9 +8,10 @@ pub returns : goal.returns
 returns c = λ P refused here.
     let found = c.args.found in (
       refused,
-      broken_in P c.args.reached.now (λ h. is_clocked P h.node) (λ h. is_part_clocked P h.node) found.node found.part _ _
-          here
+      broken_in P c.args.reached.now (λ h. is_clocked P h.node) (λ h. is_part_clocked P h.node)
+          found.node found.part _ _ here
           (ap (λ f. string_bytes f.node) c.in_ok-new.ensures.ok
-          ∙ (ap string_bytes c.in_ok-explain.ensures.node ∙ c.in_ok-name_of.ensures))
-          (ap (λ f. f.part) c.in_ok-new.ensures.ok ∙ c.in_ok-explain.ensures.part),
+          ∙ (ap string_bytes c.in_ok-explain.ensures.node ∙ c.in_ok-node.ensures.node))
+          (ap (λ f. f.part) c.in_ok-new.ensures.ok
+          ∙ (c.in_ok-explain.ensures.part ∙ c.in_ok-node.ensures.part)),
     )

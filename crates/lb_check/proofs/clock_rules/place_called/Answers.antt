@@ -13,7 +13,7 @@ returns c =
     let es = c.args.terms.now in
     let old = found_in c.args.placed.now in
     let operands = c.as_slice-operands.ensures.value ∙ c.in_ok-row.ensures.operands in
-    let runs = c.in_ok-runs.ensures ∙ ap (λ os. side_base ctx n os lefts) operands in
+    let runs = c.in_ok-runs.ensures.runs ∙ ap (λ os. side_base ctx n os lefts) operands in
     let given = c.in_ok-given.ensures ∙ ap (λ os. given_variables n os lefts) operands in
     let first =
     c.in_ok-note_call.ensures
@@ -24,7 +24,7 @@ returns c =
     ∙ ap₂ (λ k os. argument_clocks k (stands_for n.inputs os lefts) n) runs operands in
     let known = c.deref-2.ensures.value ∙ c.in_ok-row.ensures.within ∙ sym (append-nil _) in
     record {
-      kept = c.in_ok-kept.ensures ∙ ap (λ os. mirror.is_call_clocked ctx n os lefts) operands;
+      kept = c.in_ok-runs.ensures.kept ∙ ap (λ os. mirror.is_call_clocked ctx n os lefts) operands;
       placed =
           (c.in_ok-place_each.ensures [] known).1
           ∙ ap₂ (λ f l. with_terms f (placed_each ctx l es)) first clocks;

@@ -11,6 +11,7 @@ returns c = λ P refused here.
       broken_in P c.args.reached.now (is_typed P) (is_part_typed P) found.node found.part _ _
           here
           (ap (λ f. string_bytes f.node) c.in_ok-new.ensures.ok
-          ∙ (ap string_bytes c.in_ok-explain.ensures.node ∙ c.in_ok-name_of.ensures))
-          (ap (λ f. f.part) c.in_ok-new.ensures.ok ∙ c.in_ok-explain.ensures.part),
+          ∙ (ap string_bytes c.in_ok-explain.ensures.node ∙ c.in_ok-node.ensures.node))
+          (ap (λ f. f.part) c.in_ok-new.ensures.ok
+          ∙ (c.in_ok-explain.ensures.part ∙ c.in_ok-node.ensures.part)),
     )

@@ -2,7 +2,7 @@
 use Rattle.lb_check.proofs.Words.{sym, ◌∙◌}
 use Rattle.std.proofs.lemmas.Option.{none-some}
 use Rattle.lb_check.proofs.definitions.BrokenRules.{all_kept, broken, kept_by, not_defined, told}
-use Rattle.lb_check.proofs.checker.definition_refusal.Goals as goal
+use Rattle.lb_check.proofs.checker.judge_definitions.Goals as goal
 
 pub returns-in_ok-definition_error-in-Some : goal.returns-in_ok-definition_error-in-Some
 returns-in_ok-definition_error-in-Some c = λ P j typed clocked.
