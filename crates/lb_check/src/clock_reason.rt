@@ -9,7 +9,7 @@ use crate::clock_fault::ClockRule;
 use crate::clock_set::{ClockSet, Operand};
 use crate::own_clock::Clock;
 use crate::term_clock::{ClockEnv, row_clock_set, unary_clock_set};
-use lb_static::{ResolvedNode, Term, Variable, VariableId};
+use lb_static::{ResolvedNode, Sampling, Term, Variable, VariableId};
 
 /// A rule of clocks that is broken, the clock that is found, and the clock that is wanted.
 #[derive(Clone, Copy)]
@@ -136,12 +136,11 @@ fn of_sampled(rule: ClockRule, operands: &[Operand], wanted: Option<Clock>) -> C
     }
 }
 
-/// The first argument, counted from 1, that is no variable, though a parameter waits for its input.
-fn first_not_given(callee: &ResolvedNode, operands: &[Operand]) -> Option<usize> {
+/// The first clock of a parameter that waits for an input whose argument is no variable.
+fn first_not_given(callee: &ResolvedNode, operands: &[Operand]) -> Option<Sampling> {
     for parameter in parameters(callee) {
         if !is_given(callee.inputs, operands, parameter.clock) {
-            let awaited = parameter.clock?.variable;
-            return Some(awaited.0.saturating_add(1));
+            return parameter.clock;
         }
     }
     None
@@ -154,7 +153,8 @@ fn argument_reason(
     given: &Given,
     operands: &[Operand],
 ) -> Option<ClockReason> {
-    if let Some(count) = first_not_given(callee, operands) {
+    if let Some(clock) = first_not_given(callee, operands) {
+        let count = clock.variable.0.saturating_add(1);
         return Some(of_rule(ClockRule::ClockArgument(count)));
     }
     let apart = first_unfit(base, given, inputs_of(callee), operands)?;

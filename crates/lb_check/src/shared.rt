@@ -126,18 +126,17 @@ fn judged_part(
 ) -> Result<SharedPart, AllocError>
     ensures { IfOk result (mirror.IsJudgedPart reached.now table.now) }
 {
-    let settled = match reached.nodes.get(part.node.0) {
-        Some(node) => typed_statements(
-            alloc,
-            &TypeEnv {
-                reached,
-                table,
-                node,
-                specialization: &part,
-            },
-        )?,
-        None => Vec::new(alloc),
+    let Some(node) = reached.nodes.get(part.node.0) else {
+        let settled = Vec::new(alloc);
+        return Ok(SharedPart { part, settled });
     };
+    let env = TypeEnv {
+        reached,
+        table,
+        node,
+        specialization: &part,
+    };
+    let settled = typed_statements(alloc, &env)?;
     Ok(SharedPart { part, settled })
 }
 

@@ -37,10 +37,18 @@ calls_among os = some_of (map own_call os)
 abbrev pub AreCallsOf : ℕ → List Occurrence → List Site → Type 0
 AreCallsOf n os ss = calls_among os ≡ numbered_sites n ss
 
+-- the same option before both lists of options
+one_before : {A : Type 0} (x : Option A) (xs ys : List (Option A)) (zs : List A) →
+    some_of xs ≡ some_of ys ++ zs → some_of (x ∷ xs) ≡ some_of (x ∷ ys) ++ zs
+one_before None xs ys zs e = e
+one_before (Some v) xs ys zs e = ap (λ l. v ∷ l) e
+
 calls_append : (os os' : List Occurrence) →
     calls_among (os ++ os') ≡ calls_among os ++ calls_among os'
 calls_append [] os' = refl
-calls_append (o ∷ os) os' = grind (arith, calls_append os os')
+calls_append (o ∷ os) os' =
+    one_before (own_call o) (map own_call (os ++ os')) (map own_call os) (calls_among os')
+    (calls_append os os')
 
 joined_calls :
     (n : ℕ) (os os' : List Occurrence) (ss ts : List Site) → AreCallsOf n os ss →
