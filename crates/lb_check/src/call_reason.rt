@@ -1,10 +1,11 @@
 //! The reason why a call or an iterator has not one type, where its arguments have types (E9).
 
+use crate::compared_types::OperandTypes;
 use crate::signature::{TypeRow, signature_of};
 use crate::type_env::TypeEnv;
 use crate::type_fault::TypeRule;
 use crate::type_reason::{TypeReason, Typed, of_rule};
-use lb_static::{DataType, Term};
+use lb_static::Term;
 use std::alloc::{AllocError, Global};
 
 /// The reason for an argument, counted from 0, that has another type than its input, or whose input
@@ -23,33 +24,23 @@ fn of_argument<'t>(
     })
 }
 
-/// The place of the first argument that has another type than its input.
-pub fn first_unfit(inputs: &TypeRow, types: &[DataType]) -> Option<usize> {
-    for (place, found) in types.iter().enumerate() {
-        if !inputs.is_at(place, found) {
-            return Some(place);
-        }
-    }
-    None
-}
-
-/// The reason why a call or an iterator with arguments of these types has not one type.
+/// The reason why a call or an iterator with these arguments has not one type.
 pub fn call_reason<'t>(
     alloc: Global,
     env: &TypeEnv<'t, '_>,
     term: &Term,
-    types: &[DataType],
+    arguments: &OperandTypes,
 ) -> Result<TypeReason<'t>, AllocError> {
-    let signature = signature_of(alloc, env, term, types.len())?;
+    let signature = signature_of(alloc, env, term, arguments.count)?;
     let inputs = signature.takes;
-    let (found, wanted) = (types.len(), inputs.len());
+    let (found, wanted) = (arguments.count, inputs.len());
     if !signature.stands {
         return Ok(of_rule(TypeRule::IteratedNode));
     }
     if found != wanted {
         return Ok(of_rule(TypeRule::ArgumentCount { found, wanted }));
     }
-    match first_unfit(&inputs, types) {
+    match arguments.unfit {
         Some(place) => of_argument(alloc, inputs, place),
         None => Ok(of_rule(TypeRule::ResultCount)),
     }

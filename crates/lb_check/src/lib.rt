@@ -13,6 +13,7 @@ mod clock_fault;
 mod clock_reason;
 mod clock_rules;
 mod clock_set;
+mod compared_types;
 mod definition_cause;
 mod definition_fault;
 mod definition_rules;

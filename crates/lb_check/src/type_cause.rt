@@ -13,8 +13,8 @@ ghost use Rattle.lb_check.specs.Correct.{IsAnswer};
 ghost use Rattle.lb_check.specs.TypeRules.{is_typed};
 
 use crate::array_types::array_of;
-use crate::call_reason::first_unfit;
 use crate::cause::{FaultyPart, clock_offset, faulty_part};
+use crate::compared_types::{OperandTypes, operand_types};
 use crate::error::CheckError;
 use crate::judged_types::IllTyped;
 use crate::operand_types::{common_type, when_truth};
@@ -24,33 +24,29 @@ use crate::sites::{Site, StatementSite, left_offset, right_side, statement_at};
 use crate::told_types::{add_results, tell, tell_one};
 use crate::type_env::TypeEnv;
 use crate::type_fault::{SourceType, TypeFault, TypeRule};
-use crate::type_reason::{TypeReason, Typed, first_unlike, of_rule, type_reason};
+use crate::type_reason::{TypeReason, Typed, of_rule, type_reason};
 use crate::types::{given_where, has_arity, one_type, two_types, type_of};
 use lb_static::{DataType, Reached, ResolvedStatement, Table, Term, Variable, VariableId};
 use lb_syntax::{Kind, Statement};
 use std::alloc::{AllocError, Global};
 
-/// The type of a term with a row of operands of these types, a list apart.
+/// The type of a call, an iterator, `#` or `nor` with these operands.
 fn row_type(
     alloc: Global,
     env: &TypeEnv,
     term: &Term,
-    types: &[DataType],
+    operands: &OperandTypes,
 ) -> Result<Option<DataType>, AllocError> {
-    let signature = signature_of(alloc, env, term, types.len())?;
-    let fits = has_arity(&signature, types.len()) && first_unfit(&signature.takes, types).is_none();
+    let signature = signature_of(alloc, env, term, operands.count)?;
+    let fits = has_arity(&signature, operands.count) && operands.unfit.is_none();
     only_given(alloc, &given_where(fits, signature.gives))
 }
 
-/// The type of a list of elements of these types, the last of which is taken out.
-fn list_type(types: &mut Vec<DataType>) -> Result<Option<DataType>, AllocError> {
-    let count = types.len() as u64;
-    let Some(last) = types.pop() else {
-        return Ok(None);
-    };
-    match first_unlike(types, last.kind, &last.sizes) {
-        Some(_) => Ok(None),
-        None => array_of(count, last),
+/// The type of a list of these elements, whose type is taken out.
+fn list_type(elements: &mut OperandTypes) -> Result<Option<DataType>, AllocError> {
+    match (elements.kept.pop(), elements.unfit) {
+        (Some(element), None) => array_of(elements.count as u64, element),
+        _ => Ok(None),
     }
 }
 
@@ -73,21 +69,21 @@ fn few_type(
     }
 }
 
-/// The type of a term with operands of these types, if it has one. The types may be taken out.
+/// The type of a term with these operands, if it has one. The types may be taken out.
 fn type_from(
     alloc: Global,
     env: &TypeEnv,
     term: &Term,
-    types: &mut Vec<DataType>,
+    operands: &mut OperandTypes,
 ) -> Result<Option<DataType>, AllocError> {
     match term {
-        Term::Array(_) => list_type(types),
+        Term::Array(_) => list_type(operands),
         Term::AtMostOne(_)
         | Term::Nor(_)
         | Term::Call(_, _)
         | Term::IterateNode(_, _, _)
-        | Term::IterateSymbol(_, _, _, _) => row_type(alloc, env, term, types),
-        _ => few_type(alloc, env, term, types),
+        | Term::IterateSymbol(_, _, _, _) => row_type(alloc, env, term, operands),
+        _ => few_type(alloc, env, term, &mut operands.kept),
     }
 }
 
@@ -95,11 +91,11 @@ fn type_from(
 /// has none, `untyped` is the first part of it that has none, though each operand of that part has
 /// one.
 #[cycle(typings)]
-fn typed_operands<'t>(
+fn typed_operands<'t, 'e>(
     alloc: Global,
-    env: &TypeEnv,
+    env: &TypeEnv<'e, '_>,
     site: Site<'t>,
-    types: &mut Vec<DataType>,
+    types: &mut OperandTypes<'e>,
     untyped: &mut Site<'t>,
 ) -> Result<bool, AllocError> {
     for place in 0..usize::MAX {
@@ -117,13 +113,13 @@ fn typed_operands<'t>(
 /// The type of a term, if it has one: each part is looked at once. Where it has none, `untyped` is
 /// the first part that has none, though each operand of that part has one.
 #[cycle(typings)]
-fn typed_term<'t>(
+fn typed_term<'t, 'e>(
     alloc: Global,
-    env: &TypeEnv,
+    env: &TypeEnv<'e, '_>,
     site: Site<'t>,
     untyped: &mut Site<'t>,
 ) -> Result<Option<DataType>, AllocError> {
-    let mut types = Vec::new(alloc);
+    let mut types = operand_types(alloc, env, site.term)?;
     if !typed_operands(alloc, env, site, &mut types, untyped)? {
         return Ok(None);
     }
@@ -149,7 +145,7 @@ fn untyped_reason<'t>(
 ) -> Result<Untyped<'t>, AllocError> {
     let mut site = whole;
     typed_term(alloc, env, whole, &mut site)?;
-    let mut types = Vec::new(alloc);
+    let mut types = operand_types(alloc, env, site.term)?;
     let mut within = site;
     typed_operands(alloc, env, site, &mut types, &mut within)?;
     let reason = type_reason(alloc, env, site.term, &types)?;

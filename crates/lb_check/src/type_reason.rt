@@ -1,6 +1,7 @@
 //! The reason why a term has no type, where its operands have types (E9).
 
 use crate::call_reason::call_reason;
+use crate::compared_types::OperandTypes;
 use crate::signature::TypeRow;
 use crate::type_env::TypeEnv;
 use crate::type_fault::TypeRule;
@@ -43,33 +44,14 @@ fn of_operand<'t>(count: usize, wanted: Typed<'t>) -> TypeReason<'t> {
     }
 }
 
-/// The place of the first type that has not this kind and these sizes.
-pub fn first_unlike(types: &[DataType], kind: Kind, sizes: &[u64]) -> Option<usize> {
-    for (place, found) in types.iter().enumerate() {
-        if found.kind != kind || found.sizes.as_slice() != sizes {
-            return Some(place);
-        }
-    }
-    None
-}
-
-/// The reason for operands of which one has not this kind and these sizes, or for too few or too
-/// many operands.
-fn of_unlike<'t>(
-    types: &[DataType],
-    kind: Kind,
-    sizes: &[u64],
-    wanted: Typed<'t>,
-) -> TypeReason<'t> {
-    match first_unlike(types, kind, sizes) {
-        Some(place) => of_operand(place.saturating_add(1), wanted),
-        None => of_rule(TypeRule::Length),
-    }
-}
-
 /// The reason for operands of which one is no scalar of this kind.
 fn of_scalars<'t>(types: &[DataType], kind: Kind) -> TypeReason<'t> {
-    of_unlike(types, kind, &[], Typed::Scalar(kind))
+    for (place, found) in types.iter().enumerate() {
+        if found.kind != kind || !found.sizes.is_empty() {
+            return of_operand(place.saturating_add(1), Typed::Scalar(kind));
+        }
+    }
+    of_rule(TypeRule::Length)
 }
 
 /// The reason for an operator with two operands, one of which has the wrong type.
@@ -118,31 +100,25 @@ fn of_join<'t>(types: &[DataType]) -> TypeReason<'t> {
     }
 }
 
-/// The reason for elements of different types, or for too few or too many elements.
-fn of_elements<'t>(elements: &'t [Term], types: &[DataType]) -> TypeReason<'t> {
-    match (elements, types) {
-        ([element, ..], [first, ..]) => {
-            of_unlike(
-                types,
-                first.kind,
-                &first.sizes,
-                Typed::Results(element, None),
-            )
-        }
-        _ => of_rule(TypeRule::Length),
+/// The reason for many operands of which one has not the type that is wanted, or for too few or too
+/// many operands.
+fn of_unfit<'t>(unfit: Option<usize>, wanted: Typed<'t>) -> TypeReason<'t> {
+    match unfit {
+        Some(place) => of_operand(place.saturating_add(1), wanted),
+        None => of_rule(TypeRule::Length),
     }
 }
 
 /// The reason why a term that is no call has no type, where its operands have these types.
-fn operand_reason<'t>(term: &'t Term, types: &[DataType]) -> TypeReason<'t> {
+fn operand_reason<'t>(term: &'t Term, operands: &OperandTypes) -> TypeReason<'t> {
+    let types = operands.kept.as_slice();
     match term {
         Term::Literal(_) | Term::Truth(_) | Term::Value(_) | Term::Variable(_) => {
             of_rule(TypeRule::Number)
         }
         Term::Unary(UnaryOperator::Negate, _) => of_scalars(types, Kind::Int),
-        Term::Unary(UnaryOperator::Not, _) | Term::AtMostOne(_) | Term::Nor(_) => {
-            of_scalars(types, Kind::Bool)
-        }
+        Term::Unary(UnaryOperator::Not, _) => of_scalars(types, Kind::Bool),
+        Term::AtMostOne(_) | Term::Nor(_) => of_unfit(operands.unfit, Typed::Scalar(Kind::Bool)),
         Term::Binary(op, _, _) => of_binary(*op, types),
         Term::If(_, left, _) => of_choice(left, types),
         Term::Arrow(left, _) | Term::Fby(left, _) => of_operand(2, Typed::Results(left, None)),
@@ -152,7 +128,10 @@ fn operand_reason<'t>(term: &'t Term, types: &[DataType]) -> TypeReason<'t> {
         },
         Term::Index(_, _) | Term::Slice(_, _, _) => of_index(types),
         Term::Join(_, _) => of_join(types),
-        Term::Array(elements) => of_elements(elements, types),
+        Term::Array(elements) => match elements.first() {
+            Some(element) => of_unfit(operands.unfit, Typed::Results(element, None)),
+            None => of_rule(TypeRule::Length),
+        },
         _ => of_rule(TypeRule::Length),
     }
 }
@@ -162,12 +141,12 @@ pub fn type_reason<'t>(
     alloc: Global,
     env: &TypeEnv<'t, '_>,
     term: &'t Term,
-    types: &[DataType],
+    operands: &OperandTypes,
 ) -> Result<TypeReason<'t>, AllocError> {
     match term {
         Term::Call(_, _) | Term::IterateNode(_, _, _) | Term::IterateSymbol(_, _, _, _) => {
-            call_reason(alloc, env, term, types)
+            call_reason(alloc, env, term, operands)
         }
-        _ => Ok(operand_reason(term, types)),
+        _ => Ok(operand_reason(term, operands)),
     }
 }
