@@ -1,35 +1,8 @@
 -- The words that the proof files of this crate share, each from where it is defined.
-pub use Rattle.std.specs.{List.{filter, list_all, range_with_len}, Prelude.{if◌then◌else◌, nat_lt}}
-pub use Rattle.std.{specs.Prelude.{slice_get, ◌↔◌}, proofs.Common.{All, Bool, Global, IfSome, List}}
-pub use Rattle.std.proofs.Common.{None, Option, Some, Vec, [], add-one, ap, ap₂, arith, cond, drop}
-pub use Rattle.std.proofs.Common.{false, get_or, inl, inr, is_some, length, length-set, map, not}
-pub use Rattle.std.proofs.Common.{pos, refl, replicate, rules, set, subst, suc, sym, take, true}
-pub use Rattle.std.proofs.Common.{zero, ℕ, ℤ, ⊎_elim, ◌&&◌, ◌++◌, ◌+◌, ◌-◌, ◌/◌, ◌<◌, ◌||◌, ◌∙◌}
-pub use Rattle.std.proofs.{Common.{◌∷◌, ◌≡◌, ◌≢◌, ◌≤◌, ◌⊎◌}, Math.ListN.drop_of_length-le}
-pub use Rattle.std.proofs.{Math.{ListN.get_or-eq_default, Seq.drop-cons}, lemmas.Bool.and_from}
-pub use Rattle.std.proofs.lemmas.Bool.{cases_eq, cases_lt, lt-ltb, ltb-true, not-true}
-pub use Rattle.std.proofs.lemmas.List.{append-nil, append_assoc, get_or-map, get_or-set_other}
-pub use Rattle.std.proofs.lemmas.List.{get_or-set_same, length-append, length-map, length-replicate}
-pub use Rattle.std.proofs.lemmas.List.{map-append, take_more, Elements.All-push}
-pub use Rattle.std.proofs.lemmas.List.FromFn.{get_or-map-range_with_len, length-map-range_with_len}
-pub use Rattle.std.proofs.lemmas.Option.{get_or_from_slice_get, same_Some, slice_get-get_or}
-pub use Rattle.std.proofs.lemmas.Option.{slice_get_past, slice_get_within}
-pub use Rattle.{std.proofs.lemmas.Result.err_from_is_err_and, lb_syntax.specs.Lists.AreApart}
-pub use Rattle.lb_syntax.specs.Lists.{Every, In, copies, holds, joined, tail_of, where_true, zip2}
-pub use Rattle.lb_syntax.specs.{Refusals.{E4, E7, E8, unless}, Tree.{Arrow, Current, Declaration}}
-pub use Rattle.lb_syntax.specs.{Tree.{Expr, Fby, Pre}, declared.tree.BinaryOperator.BinaryOperator}
-pub use Rattle.lb_syntax.specs.declared.tree.BinaryOperator.TheVariants.{Divide, Minus, Modulo}
-pub use Rattle.lb_syntax.specs.declared.tree.{BinaryOperator.TheVariants.{Plus, Times}, Kind.Kind}
-pub use Rattle.lb_syntax.specs.declared.tree.{Kind.TheVariants.Int, UnaryOperator.UnaryOperator}
-pub use Rattle.lb_syntax.specs.declared.tree.UnaryOperator.TheVariants.{Negate, Not}
-pub use Rattle.lb_syntax.proofs.TruthValues.{and_first, and_second, contrary}
-pub use Rattle.lb_static.specs.{Arithmetic.is_int, DataTypes.{input_kinds, signature, variables}}
-pub use Rattle.lb_static.specs.Instances.{Instance, Observer, Path, Program, Root, instance_at}
-pub use Rattle.lb_static.specs.{Instances.instances, Instantiation.has_no_parameters}
-pub use Rattle.lb_static.specs.Instantiation.{instantiation_refusal, is_root, static_refusal}
-pub use Rattle.lb_static.specs.{Names.{is_well_founded, keeps_names}, Signature.Elements}
-pub use Rattle.{lb_static.specs.Signature.kinds_of, lb_traces.specs.Traces.{IsCell, IsRecording}}
-pub use Rattle.lb_traces.specs.Traces.{Recording, trace_at}
+pub use Rattle.lb_check.proofs.{definitions.BrokenRules.{kept, second_none}, lists.Members.Every-at}
+pub use Rattle.lb_check.proofs.lists.Members.{Every-from, in_first}
+pub use Rattle.lb_check.proofs.programs.{InstancePaths.path_is, SolutionStreams.length-both}
+pub use Rattle.lb_check.proofs.programs.SolutionStreams.{solves_same}
 pub use Rattle.lb_check.specs.{Acceptance.check_refusal, Needs.{Element, Needs}}
 pub use Rattle.lb_check.specs.{Occurrences.{Occurrence, node_occurrences}, Scalars.{Bad, Boolean}}
 pub use Rattle.lb_check.specs.Scalars.{Integer, Scalar, Stream, is_given, is_of_kind, one_scalar}
@@ -39,10 +12,6 @@ pub use Rattle.lb_check.specs.Streams.{along, along_two, choice, constantly, fir
 pub use Rattle.lb_check.specs.Streams.{held, latest, newest, one_cell, previous, sample, shows}
 pub use Rattle.lb_check.specs.{Streams.two_cells, Verdicts.{is_bad, is_false, is_nil, or_later}}
 pub use Rattle.lb_check.specs.declared.verdict.Verdict.{Verdict, TheVariants.Passed}
-pub use Rattle.lb_check.proofs.{definitions.BrokenRules.{kept, second_none}, lists.Members.Every-at}
-pub use Rattle.lb_check.proofs.lists.Members.{Every-from, in_first}
-pub use Rattle.lb_check.proofs.programs.{InstancePaths.path_is, SolutionStreams.length-both}
-pub use Rattle.lb_check.proofs.programs.SolutionStreams.{solves_same}
 pub use Rattle.lb_flat.specs.Correct.{HasReads, IsExpansionOf, IsOrderOf, IsOrderingOf}
 pub use Rattle.lb_flat.specs.Flat.{Always, ApplyBinary, ApplyUnary, AreLong, Choose, Constant, Copy}
 pub use Rattle.lb_flat.specs.Flat.{FirstThen, FlatClock, FlatEquation, FlatSolves, Holds, Input}
@@ -68,4 +37,34 @@ pub use Rattle.lb_flat.specs.{Values.{clock_within, equation_of, operation_of}, 
 pub use Rattle.lb_flat.specs.{Within.{IsClock, IsWithin}, declared.cell.Cell.Cell}
 pub use Rattle.lb_flat.specs.declared.equation.{Clock.Clock, ClockId.ClockId, ElementId.ElementId}
 pub use Rattle.lb_flat.specs.declared.{equation.InputPlace.InputPlace, error.Cycle.Cycle}
+pub use Rattle.lb_static.specs.{Arithmetic.is_int, DataTypes.{input_kinds, signature, variables}}
+pub use Rattle.lb_static.specs.Instances.{Instance, Observer, Path, Program, Root, instance_at}
+pub use Rattle.lb_static.specs.{Instances.instances, Instantiation.has_no_parameters}
+pub use Rattle.lb_static.specs.Instantiation.{instantiation_refusal, is_root, static_refusal}
+pub use Rattle.lb_static.specs.{Names.{is_well_founded, keeps_names}, Signature.Elements}
+pub use Rattle.{lb_static.specs.Signature.kinds_of, lb_syntax.proofs.TruthValues.and_first}
+pub use Rattle.lb_syntax.{proofs.TruthValues.{and_second, contrary}, specs.Lists.{AreApart, Every}}
+pub use Rattle.lb_syntax.specs.Lists.{In, copies, holds, joined, tail_of, where_true, zip2}
+pub use Rattle.lb_syntax.specs.{Refusals.{E4, E7, E8, unless}, Tree.{Arrow, Current, Declaration}}
+pub use Rattle.lb_syntax.specs.{Tree.{Expr, Fby, Pre}, declared.tree.BinaryOperator.BinaryOperator}
+pub use Rattle.lb_syntax.specs.declared.tree.BinaryOperator.TheVariants.{Divide, Minus, Modulo}
+pub use Rattle.lb_syntax.specs.declared.tree.{BinaryOperator.TheVariants.{Plus, Times}, Kind.Kind}
+pub use Rattle.lb_syntax.specs.declared.tree.{Kind.TheVariants.Int, UnaryOperator.UnaryOperator}
+pub use Rattle.lb_syntax.specs.declared.tree.UnaryOperator.TheVariants.{Negate, Not}
+pub use Rattle.lb_traces.specs.Traces.{IsCell, IsRecording, Recording, trace_at}
+pub use Rattle.std.proofs.Common.{All, Bool, Global, IfSome, List, None, Option, Some, Vec, []}
+pub use Rattle.std.proofs.Common.{add-one, ap, ap₂, arith, cond, drop, false, get_or, inl, inr}
+pub use Rattle.std.proofs.Common.{is_some, length, length-set, map, not, pos, refl, replicate}
+pub use Rattle.std.proofs.Common.{rules, set, subst, suc, sym, take, true, zero, ℕ, ℤ, ⊎_elim, ◌&&◌}
+pub use Rattle.std.proofs.Common.{◌++◌, ◌+◌, ◌-◌, ◌/◌, ◌<◌, ◌||◌, ◌∙◌, ◌∷◌, ◌≡◌, ◌≢◌, ◌≤◌, ◌⊎◌}
+pub use Rattle.std.proofs.Math.{ListN.{drop_of_length-le, get_or-eq_default}, Seq.drop-cons}
+pub use Rattle.std.proofs.lemmas.Bool.{and_from, cases_eq, cases_lt, lt-ltb, ltb-true, not-true}
+pub use Rattle.std.proofs.lemmas.List.{append-nil, append_assoc, get_or-map, get_or-set_other}
+pub use Rattle.std.proofs.lemmas.List.{get_or-set_same, length-append, length-map, length-replicate}
+pub use Rattle.std.proofs.lemmas.List.{map-append, take_more, Elements.All-push}
+pub use Rattle.std.proofs.lemmas.List.FromFn.{get_or-map-range_with_len, length-map-range_with_len}
+pub use Rattle.std.proofs.lemmas.Option.{get_or_from_slice_get, same_Some, slice_get-get_or}
+pub use Rattle.std.proofs.lemmas.Option.{slice_get_past, slice_get_within}
+pub use Rattle.std.{proofs.lemmas.Result.err_from_is_err_and, specs.List.{filter, list_all}}
+pub use Rattle.std.specs.{List.range_with_len, Prelude.{if◌then◌else◌, nat_lt, slice_get, ◌↔◌}}
 unfoldable pub use Rattle.lb_check.specs.Elements.{program_elements}

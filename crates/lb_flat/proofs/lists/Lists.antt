@@ -96,8 +96,7 @@ length-first_then (suc n) (None ∷ xs) (y ∷ ys) p q =
 length-previous :
     (v : Scalar) (bs : List Bool) (xs : Stream) → length (previous v bs xs) ≡ length bs
 length-previous v [] xs = refl
-length-previous v (b ∷ bs) xs =
-    ap suc (length-previous (newest v (first_cell xs)) bs (tail_of xs))
+length-previous v (b ∷ bs) xs = ap suc (length-previous (newest v (first_cell xs)) bs (tail_of xs))
 
 length-latest :
     (n : ℕ) (v : Scalar) (bs : List Bool) (xs : Stream) → length bs ≡ n → length xs ≡ n →
@@ -137,7 +136,5 @@ module _ (X : Inputs) where
         length-first_then _ _ _ (column_long F long a) (column_long F long b)
     operate_long k (Previous v a) =
         length-previous v (instants X F k) (column X F a) ∙ instants_long k
-    operate_long k (Latest v a) =
-        length-latest _ v _ _ (instants_long k) (column_long F long a)
-    operate_long k (Sample a) =
-        length-both _ _ _ _ (instants_long k) (column_long F long a)
+    operate_long k (Latest v a) = length-latest _ v _ _ (instants_long k) (column_long F long a)
+    operate_long k (Sample a) = length-both _ _ _ _ (instants_long k) (column_long F long a)

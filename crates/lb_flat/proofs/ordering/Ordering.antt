@@ -38,8 +38,7 @@ module _ {A : Type 0} (test : A → Bool) (P : A → Type 0) where
   test_of-Every says (a ∷ xs) h =
       and_from (test a) (list_all test xs) (says a h.0) (test_of-Every says xs h.1)
 
-pub Every-of_All :
-    {A : Type 0} (P : A → Type 0) (xs : List A) → All P xs → Every P xs
+pub Every-of_All : {A : Type 0} (P : A → Type 0) (xs : List A) → All P xs → Every P xs
 Every-of_All P [] h = tt
 Every-of_All P (a ∷ xs) h =
     (h 0 a (omega arith), Every-of_All P xs (λ k d lt. h (suc k) d (omega arith)))
@@ -91,8 +90,7 @@ module _ (done : List Bool) (q : FlatEquation) where
 
     pub next_of_test : (before : List ℕ) → AreMarks done before → IsNext (length done) before q
     next_of_test before marks = record {
-      reads_done =
-          Every-of_test (is_done done) (λ i. In i before) marks.given _ (and_first _ _ h);
+      reads_done = Every-of_test (is_done done) (λ i. In i before) marks.given _ (and_first _ _ h);
       keeps_element =
           Every-of_test (λ i. nat_lt i (length done)) (λ i. i < length done)
           (λ i. ltb-true i (length done)) _ (and_first _ _ (and_second _ _ h));
@@ -166,8 +164,7 @@ goes_before done q Q next rest = and_from _ _ next rest
 
 module _ (done : List Bool) where
   -- if `first_left` finds no element, all are done
-  pub none_left :
-      (is : List ℕ) → first_left done is ≡ None → list_all (is_done done) is ≡ true
+  pub none_left : (is : List ℕ) → first_left done is ≡ None → list_all (is_done done) is ≡ true
   none_left [] h = refl
   none_left (i ∷ is) h = grind (arith, none_left is, h)
 
@@ -196,8 +193,7 @@ pub none_still :
     (done : List Bool) (e : ℕ) → e < length done → (is : List ℕ) → first_left done is ≡ None →
     first_left (set done e true) is ≡ None
 none_still done e lt [] h = refl
-none_still done e lt (i ∷ is) h =
-    grind (arith, done_stays done e i lt, none_still done e lt is, h)
+none_still done e lt (i ∷ is) h = grind (arith, done_stays done e i lt, none_still done e lt is, h)
 
 -- if `o` is `None`, so is its number `p`
 pub found_none :
@@ -336,8 +332,7 @@ module _ {A : Type 0} where
   pub In-All : (P : A → Type 0) (a : A) (xs : List A) → All P xs → In a xs → P a
   In-All P a [] h i = absurd i
   In-All P a (x ∷ xs) h (inl e) = subst P e (h 0 x (omega arith))
-  In-All P a (x ∷ xs) h (inr i) =
-      In-All P a xs (λ k d lt. h (suc k) d (omega arith)) i
+  In-All P a (x ∷ xs) h (inr i) = In-All P a xs (λ k d lt. h (suc k) d (omega arith)) i
 
   pub All-In : (P : A → Type 0) (xs : List A) → ((a : A) → In a xs → P a) → All P xs
   All-In P xs h k d lt = h (get_or xs k d) (In-get_or xs k d lt)
@@ -436,8 +431,7 @@ module _ (clocks : List Clock) (table : List (Option Equation)) (first done : Li
       let same : left done ≡ left first = ap left (h.unchanged is) in omega arith)
       (cases_Bool some)
 
-  pub one_settled :
-      suc (left after) ≡ left done → IsPassing clocks table first after true (e + 1)
+  pub one_settled : suc (left after) ≡ left done → IsPassing clocks table first after true (e + 1)
   one_settled less = record {
     scheduled = λ is. omega (arith, at_most);
     unchanged = λ is. absurd (cc);

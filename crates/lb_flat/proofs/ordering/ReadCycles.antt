@@ -51,8 +51,7 @@ module _ (R : ℕ → ℕ → Type 0) where
   path_more at next [] h r = r
   path_more at next (i ∷ is) h r = linked_more at next i is h r
 
-  linked_path :
-      (at : ℕ) (is : List ℕ) → 0 < length is → IsPath R at is → AreLinked R at is
+  linked_path : (at : ℕ) (is : List ℕ) → 0 < length is → IsPath R at is → AreLinked R at is
   linked_path at [] lt h = absurd (omega arith)
   linked_path at (i ∷ is) lt h = h
 
@@ -93,8 +92,7 @@ pub unnoted_less :
 unnoted_less [] i k lt e = absurd (omega arith)
 unnoted_less (None ∷ places) zero k lt e = refl
 unnoted_less (Some l ∷ places) zero k lt e = absurd (cc)
-unnoted_less (None ∷ places) (suc i) k lt e =
-    ap suc (unnoted_less places i k (omega arith) e)
+unnoted_less (None ∷ places) (suc i) k lt e = ap suc (unnoted_less places i k (omega arith) e)
 unnoted_less (Some l ∷ places) (suc i) k lt e = unnoted_less places i k (omega arith) e
 
 -- a path with one more number at its end, whose place is noted
@@ -159,8 +157,7 @@ module _ (f : FlatProgram) where
         omega (arith, unnoted_less places at k (omega arith) e)
 
     -- the place that is found for `at` in the table
-    found_at :
-        (found : Option ℕ) → found ≡ get_or places at found → get_or places at None ≡ found
+    found_at : (found : Option ℕ) → found ≡ get_or places at found → get_or places at None ≡ found
     found_at found same =
         let lt = w.is_variable in
         let many = w.as_many in
@@ -229,8 +226,7 @@ module _ (size : ℕ) where
   new_later done [] ready q i d = absurd i
   new_later done (p ∷ Q) ready q (inl e) d =
       ready.0.is_new (subst (λ p. In p.element done) (sym e) d)
-  new_later done (p ∷ Q) ready q (inr i) d =
-      new_later (p.element ∷ done) Q ready.1 q i (inr d)
+  new_later done (p ∷ Q) ready q (inr i) d = new_later (p.element ∷ done) Q ready.1 q i (inr d)
 
   -- an equation reads only what is done, or what is given before its own element
   turns :
@@ -361,8 +357,7 @@ cyclic_of P (i ∷ is) h =
 -- they can be computed, the program is causal, and a cycle of reads is a cycle of needs.
 
 -- two chains, joined, are a chain
-pub chained :
-    (f : FlatProgram) (j m i : ℕ) → Chain f j m → Chain f m i → Chain f j i
+pub chained : (f : FlatProgram) (j m i : ℕ) → Chain f j m → Chain f m i → Chain f j i
 chained f j m _ a (one_read q is own) = more_reads q m is own a
 chained f j m _ a (more_reads q e is own rest) = more_reads q e is own (chained f j m e a rest)
 

@@ -78,12 +78,10 @@ module _ (p : FlatProgram) (table : List (Option Equation)) (done : List Bool)
       }
 
       stands : In x (program_of p).equations
-      stands =
-          In-map (equation_of p.clocks.items) q p.equations.items (s.table.listed from q at)
+      stands = In-map (equation_of p.clocks.items) q p.equations.items (s.table.listed from q at)
 
       pub leads : Leads (program_of p) a from
-      leads =
-          subst (Leads (program_of p) a) (s.table.own from q at) (reads_it x stands is_read.0)
+      leads = subst (Leads (program_of p) a) (s.table.own from q at) (reads_it x stands is_read.0)
 
       pub lower : p.variables ≤ from → a < from
       lower high =
@@ -124,8 +122,7 @@ new_element (q ∷ qs) (suc i) d p h lt (inl e) same =
     h.0 (subst (λ n. In n (elements_of qs))
     (sym same ∙ ap (λ (x : Equation). x.element.0) (sym e))
     (In-map (λ (x : Equation). x.element.0) (get_or qs i d) qs (In-get_or qs i d (omega arith))))
-new_element (q ∷ qs) (suc i) d p h lt (inr is) same =
-    new_element qs i d p h.1 (omega arith) is same
+new_element (q ∷ qs) (suc i) d p h lt (inr is) same = new_element qs i d p h.1 (omega arith) is same
 
 -- ## Tables
 

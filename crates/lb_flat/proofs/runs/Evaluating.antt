@@ -233,8 +233,7 @@ module _ (given : List Scalar) where
     abbrev with_inputs : Row
     with_inputs = filled given row (filter reads_input Q)
 
-    known_there :
-        Every (λ q. is_step q ≡ false → HoldsNow given with_inputs q) Q
+    known_there : Every (λ q. is_step q ≡ false → HoldsNow given with_inputs q) Q
     known_there =
         Every-map _ (λ q. is_step q ≡ false → HoldsNow given with_inputs q) (λ q h no. by_test _
         (λ yes. h.0 yes) (λ other.
@@ -245,8 +244,7 @@ module _ (given : List Scalar) where
         reads_input q ≡ false → cell with_inputs q.element ≡ cell row q.element) (HoldsFixed row)
         Q (others_kept given size reads_input [] Q row ready) fixed))
 
-    pub instant_row :
-        filled [] (filled given row (inputs_in Q)) (steps_in Q) ≡ row_of size Q given
+    pub instant_row : filled [] (filled given row (inputs_in Q)) (steps_in Q) ≡ row_of size Q given
     instant_row =
         ap (λ r. filled [] r (steps_in Q)) (inputs_fill Q row)
         ∙ steps_alone Q with_inputs
@@ -306,8 +304,7 @@ module _ (row : Row) where
       let h = input_is o e in
       subst (λ x. remembered row x ≡ x) (sym h.is) refl
 
-  pub inputs_advanced :
-      (Q : List FlatEquation) → inputs_in (map (advanced row) Q) ≡ inputs_in Q
+  pub inputs_advanced : (Q : List FlatEquation) → inputs_in (map (advanced row) Q) ≡ inputs_in Q
   inputs_advanced [] = refl
   inputs_advanced (q ∷ Q) =
       by_test (is_input q.operation)
@@ -361,8 +358,7 @@ module _ (row : Row) where
       f y ≡ advanced row (f (get_or xs n d)) → map f (set xs n y) ≡ moved n (map f xs)
   moved_is f [] n d y lt e = absurd (omega arith)
   moved_is f (x ∷ xs) zero d y lt e = ap (λ q. q ∷ map f xs) e
-  moved_is f (x ∷ xs) (suc n) d y lt e =
-      ap (λ qs. f x ∷ qs) (moved_is f xs n d y (omega arith) e)
+  moved_is f (x ∷ xs) (suc n) d y lt e = ap (λ qs. f x ∷ qs) (moved_is f xs n d y (omega arith) e)
 
   moved_next :
       (P : List FlatEquation) (q : FlatEquation) (Q : List FlatEquation) →
@@ -465,8 +461,7 @@ module _ (f : FlatProgram) (X : Inputs) (clocks : List Clock) (inputs : List Inp
     pub ends_with :
         (v : Verdict) → v ≡ row_judged f t (map cell_of row) → v ≢ Passed →
         v ≡ flat_verdict f X
-    ends_with v e n =
-        sym (later_is v later n) ∙ ap (λ w. or_later w later) e ∙ now_or_later
+    ends_with v e n = sym (later_is v later n) ∙ ap (λ w. or_later w later) e ∙ now_or_later
 
     pub goes_on :
         (after : List Equation) → All (IsWithin f.size clocks) after → length row ≡ f.size →

@@ -1,30 +1,29 @@
 -- In a solution of a flat program that fits, elements are present on their clocks and have their
 -- kinds.
 use Rattle.lb_flat.proofs.Words
-use Words.{◌≡◌, ◌≢◌, ℕ, zero, suc, ◌/◌, ◌<◌, ◌≤◌, Bool, true, false, ℤ, pos, Some, [], ◌∷◌, refl}
-use Words.{subst, arith, UnaryOperator, Not, Negate, BinaryOperator, Plus, Minus, Times, Divide}
-use Words.{Modulo, Kind, Int, where_true, is_int, ◌&&◌, inl, inr, None, is_some, List, sym, ap, ◌∙◌}
-use Words.{Every, In, held, one_cell, two_cells, sample, shows, FlatClock, Operation, Input}
-use Words.{Constant, Copy, ApplyUnary, ApplyBinary, Choose, FirstThen, Previous, Latest, Sample}
-use Words.{FlatEquation, Row, cell, is_now, chosen_cell, now, clock_reads, reads, Ready, IfSome}
-use Words.{map, length, ap₂, get_or-eq_default, length-map, cases_lt, Stream, is_given, newest}
-use Words.{first_cell, Inputs, fits, is_row, column, instants, FlatSolves, remembered, advanced}
-use Words.{slice_get, Scalar, Integer, Boolean, Bad, strict, or_fault, two_scalars, one_scalar}
-use Words.{is_of_kind}
-use Rattle.std.{specs.Int.Signed.{mag, mag_rem}, proofs.Common.{negsuc, neg_ℤ, ◌+ℤ◌, ◌-ℤ◌, ◌*ℤ◌}}
-use Rattle.std.proofs.{Common.{int_div, int_rem}, Math.Nat.{div-le_self, div-one}}
-use Rattle.std.proofs.{Math.Nat.{div-lt_iff_lt-mul, div-le_of_le-mul}, lemmas.Bool.and_parts}
-use Rattle.lb_syntax.specs.declared.tree.BinaryOperator.TheVariants.{Equal, Unequal, Less, AtMost}
-use Rattle.lb_syntax.specs.declared.tree.BinaryOperator.TheVariants.{Greater, AtLeast}
-use Rattle.lb_syntax.specs.declared.tree.Kind.TheVariants.{Bool as Truth}
-use Rattle.{lb_static.specs.Arithmetic.is_divisible, lb_check.specs.Scalars.{Cell, Nil, chosen}}
-use Rattle.lb_flat.{specs.Fitting.{integers_kind, truths_kind}, proofs.lists.Lists.Every-first}
-use Rattle.lb_flat.proofs.lists.Lists.{Every-map, Every-both, column_long, instants_long}
-use Rattle.lb_flat.proofs.runs.Running.{HoldsNow}
-use Rattle.lb_flat.proofs.runs.Running.{first_row, after_first, column_step, instants_step}
-use Rattle.lb_flat.proofs.runs.Running.{NowAndLater, now_and_later, Step, step_of, ready_advanced}
-pub use Rattle.lb_flat.specs.Fitting.{IsOf, binary_kind, unary_kind, OperandsFit, ClockFits}
-pub use Rattle.lb_flat.specs.Fitting.{OperandKinds, KindFits, IsFitting}
+use Words.{ApplyBinary, ApplyUnary, Bad, BinaryOperator, Bool, Boolean, Choose, Constant, Copy}
+use Words.{Divide, Every, FirstThen, FlatClock, FlatEquation, FlatSolves, IfSome, In, Input, Inputs}
+use Words.{Int, Integer, Kind, Latest, List, Minus, Modulo, Negate, None, Not, Operation, Plus}
+use Words.{Previous, Ready, Row, Sample, Scalar, Some, Stream, Times, UnaryOperator, [], advanced}
+use Words.{ap, ap₂, arith, cases_lt, cell, chosen_cell, clock_reads, column, false, first_cell}
+use Words.{fits, get_or-eq_default, held, inl, inr, instants, is_given, is_int, is_now, is_of_kind}
+use Words.{is_row, is_some, length, length-map, map, newest, now, one_cell, one_scalar, or_fault}
+use Words.{pos, reads, refl, remembered, sample, shows, slice_get, strict, subst, suc, sym, true}
+use Words.{two_cells, two_scalars, where_true, zero, ℕ, ℤ, ◌&&◌, ◌/◌, ◌<◌, ◌∙◌, ◌∷◌, ◌≡◌, ◌≢◌, ◌≤◌}
+use Rattle.{lb_check.specs.Scalars.{Cell, Nil, chosen}, lb_flat.proofs.lists.Lists.Every-both}
+use Rattle.lb_flat.proofs.lists.Lists.{Every-first, Every-map, column_long, instants_long}
+use Rattle.lb_flat.proofs.runs.Running.{HoldsNow, NowAndLater, Step, after_first, column_step}
+use Rattle.lb_flat.proofs.runs.Running.{first_row, instants_step, now_and_later, ready_advanced}
+use Rattle.lb_flat.{proofs.runs.Running.step_of, specs.Fitting.{integers_kind, truths_kind}}
+use Rattle.lb_static.specs.Arithmetic.{is_divisible}
+use Rattle.lb_syntax.specs.declared.tree.BinaryOperator.TheVariants.{AtLeast, AtMost, Equal}
+use Rattle.lb_syntax.specs.declared.tree.BinaryOperator.TheVariants.{Greater, Less, Unequal}
+use Rattle.{lb_syntax.specs.declared.tree.Kind.TheVariants.Bool as Truth, std.proofs.Common.int_div}
+use Rattle.std.proofs.{Common.{int_rem, neg_ℤ, negsuc, ◌*ℤ◌, ◌+ℤ◌, ◌-ℤ◌}, Math.Nat.div-le_of_le-mul}
+use Rattle.std.proofs.{Math.Nat.{div-le_self, div-lt_iff_lt-mul, div-one}, lemmas.Bool.and_parts}
+use Rattle.std.specs.Int.Signed.{mag, mag_rem}
+pub use Rattle.lb_flat.specs.Fitting.{ClockFits, IsFitting, IsOf, KindFits, OperandKinds}
+pub use Rattle.lb_flat.specs.Fitting.{OperandsFit, binary_kind, unary_kind}
 
 -- The operators give scalars of their kinds.
 
@@ -74,15 +73,13 @@ quotient_small (negsuc a) (negsuc (suc b)) h d = omega (arith, h, half_less a b)
 quotient_int :
     (a b : ℤ) (c : Bool) → is_int a ≡ true → is_divisible a b ≡ c →
     is_of_kind Int (or_fault (where_true c (int_div a b))) ≡ true
-quotient_int a b true i d =
-    small_is_int (int_div a b) (quotient_small a b (int_is_small a i) d)
+quotient_int a b true i d = small_is_int (int_div a b) (quotient_small a b (int_is_small a i) d)
 quotient_int a b false i d = refl
 
 remainder_int :
     (a b : ℤ) (c : Bool) → is_int a ≡ true →
     is_of_kind Int (or_fault (where_true c (int_rem a b))) ≡ true
-remainder_int a b true i =
-    small_is_int (int_rem a b) (omega (arith, int_is_small a i, mag_rem a b))
+remainder_int a b true i = small_is_int (int_rem a b) (omega (arith, int_is_small a i, mag_rem a b))
 remainder_int a b false i = refl
 
 -- ## Scalars of their kinds
@@ -153,8 +150,7 @@ unary_of _ _ r Nil e i = nil_of r
 unary_of _ _ r Bad e i = bad_of r
 unary_of _ _ r _ e i = cc
 
-pub chosen_of :
-    (k : Kind) (c v w : Scalar) → IsOf k v → IsOf k w → IsOf k (chosen c v w)
+pub chosen_of : (k : Kind) (c v w : Scalar) → IsOf k v → IsOf k w → IsOf k (chosen c v w)
 chosen_of k (Boolean true) v w i j = i
 chosen_of k (Boolean false) v w i j = j
 chosen_of k Nil v w i j = nil_of k

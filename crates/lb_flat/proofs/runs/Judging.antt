@@ -66,8 +66,7 @@ module _ (P : Program) (H : History) (count : ℕ) where
 
 pub length-run : (size : ℕ) (Q : List FlatEquation) (X : Inputs) → length (run size Q X) ≡ length X
 length-run size Q [] = refl
-length-run size Q (given ∷ X) =
-    ap suc (length-run size (map (advanced (row_of size Q given)) Q) X)
+length-run size Q (given ∷ X) = ap suc (length-run size (map (advanced (row_of size Q given)) Q) X)
 
 -- the cell of an element's stream at an instant is its cell in the row of that instant
 cell_at :
@@ -186,8 +185,7 @@ module _ (Z : Inputs) where
     abbrev cut : Stream → Stream
     cut xs = take (length X) xs
 
-    column_taken :
-        (F : List Stream) (i : ℕ) → column X (map cut F) i ≡ cut (column (X ++ Z) F i)
+    column_taken : (F : List Stream) (i : ℕ) → column X (map cut F) i ≡ cut (column (X ++ Z) F i)
     column_taken [] i = sym (replicate_taken None X)
     column_taken (xs ∷ F) zero = refl
     column_taken (xs ∷ F) (suc i) = column_taken F i
@@ -237,8 +235,7 @@ module _ (Z : Inputs) where
           ticks =
               sym h.0.ticks ∙ ap (λ E. instants X E (Y.runs here.path)) prefix
               ∙ instants_taken F (Y.runs here.path) ∙ ap (take (length X)) g.0.ticks;
-          columns =
-              variables_prefix here.path (variables here.node) h.0.columns g.0.columns;
+          columns = variables_prefix here.path (variables here.node) h.0.columns g.0.columns;
         },
         instances_prefix is h.1 g.1,
       )

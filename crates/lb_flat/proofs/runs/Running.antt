@@ -27,8 +27,7 @@ first_row F = map first_cell F
 abbrev pub after_first : List Stream → List Stream
 after_first F = map tail_of F
 
-pub one_off :
-    (n : ℕ) (xs : Stream) → length xs ≡ suc n → xs ≡ first_cell xs ∷ tail_of xs
+pub one_off : (n : ℕ) (xs : Stream) → length xs ≡ suc n → xs ≡ first_cell xs ∷ tail_of xs
 one_off n [] e = absurd (omega arith)
 one_off n (x ∷ xs) e = refl
 
@@ -55,8 +54,7 @@ module _ (given : List Scalar) (X : Inputs) where
         (k : FlatClock) →
         instants (given ∷ X) F k ≡ is_now (first_row F) k ∷ instants X (after_first F) k
     instants_step Always = refl
-    instants_step (Where k i sign) =
-        ap₂ (zip2 (λ b x. b && shows sign x)) (instants_step k) (at i)
+    instants_step (Where k i sign) = ap₂ (zip2 (λ b x. b && shows sign x)) (instants_step k) (at i)
 
     -- an operation gives its cell of this instant, and then what it gives with its memory moved on
     operate_step :
@@ -95,8 +93,7 @@ module _ (given : List Scalar) (X : Inputs) where
         ∷ operate X (after_first F) q.clock (remembered (first_row F) q.operation)
     both_sides q e = sym (at q.element) ∙ e ∙ operate_step q.clock q.operation
 
-    pub now_and_later :
-        (Q : List FlatEquation) → Every (Holds (given ∷ X) F) Q → NowAndLater Q
+    pub now_and_later : (Q : List FlatEquation) → Every (Holds (given ∷ X) F) Q → NowAndLater Q
     now_and_later [] h = record { holds_now = tt; later = tt }
     now_and_later (q ∷ Q) h =
         let rest = now_and_later Q h.1 in
@@ -120,8 +117,7 @@ module _ (given : List Scalar) (X : Inputs) where
 
 -- ## What an operation reads
 
-chosen_same :
-    (c d x y z w : Cell) → c ≡ d → x ≡ y → z ≡ w → chosen_cell c x z ≡ chosen_cell d y w
+chosen_same : (c d x y z w : Cell) → c ≡ d → x ≡ y → z ≡ w → chosen_cell c x z ≡ chosen_cell d y w
 chosen_same c d x y z w p q r = cc
 
 -- two rows agree on the elements that are done
@@ -134,8 +130,7 @@ module _ (done : List ℕ) (r s : Row) (same : AreSame done r s) where
 
   is_now_same : (k : FlatClock) → AreDone (clock_reads k) → is_now r k ≡ is_now s k
   is_now_same Always h = refl
-  is_now_same (Where k i sign) h =
-      ap₂ (λ b x. b && shows sign x) (is_now_same k h.1) (same i h.0)
+  is_now_same (Where k i sign) h = ap₂ (λ b x. b && shows sign x) (is_now_same k h.1) (same i h.0)
 
   -- where two rows agree on the elements that are done, an operation that reads only those gives
   -- the same cell in both
@@ -193,8 +188,7 @@ module _ (given : List Scalar) (size : ℕ) where
       ∙ get_or-set_other row q.element i v None
       (λ e. ready.0.is_new (subst (λ j. In j done) e p))
 
-  pub length-filled :
-      (Q : List FlatEquation) (row : Row) → length (filled given row Q) ≡ length row
+  pub length-filled : (Q : List FlatEquation) (row : Row) → length (filled given row Q) ≡ length row
   length-filled [] row = refl
   length-filled (q ∷ Q) row =
       let v = now given row q.clock q.operation in

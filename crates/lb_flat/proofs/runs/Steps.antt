@@ -42,8 +42,7 @@ all_is_now row clocks (Some id) = refl
 module _ (row : Row) (clocks : List Clock) (clock rest : Option ClockId) (depth : ℕ)
     (same : (n : ℕ) → n + depth ≡ length clocks →
     is_now row (clock_within n clocks rest) ≡ is_now row (clock_of clocks clock)) where
-  pub ends_base :
-      depth < length clocks → rest ≡ None → true ≡ is_now row (clock_of clocks clock)
+  pub ends_base : depth < length clocks → rest ≡ None → true ≡ is_now row (clock_of clocks clock)
   ends_base lt e =
       let n = length clocks - depth in
       cc (base_is_now row clocks n, same n (omega arith))
@@ -205,8 +204,7 @@ module _ (row : List Cell) (count i : ℕ) (in_row : count ≤ length row)
     (same : (n : ℕ) → i + n ≡ count →
     some_in is_bad (map cell_of row) (range_with_len i n)
     ≡ some_in is_bad (map cell_of row) (range_with_len 0 count)) where
-  cell_is :
-      (d : Cell) → i < count → cell (map cell_of row) i ≡ cell_of (get_or row i d)
+  cell_is : (d : Cell) → i < count → cell (map cell_of row) i ≡ cell_of (get_or row i d)
   cell_is d lt = get_or-map cell_of row i d None (omega arith)
 
   -- there is a fault exactly where the cell at `i` or one of the rest is a fault

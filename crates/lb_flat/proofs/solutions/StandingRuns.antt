@@ -1,32 +1,30 @@
 -- A program for which a flat program in order stands: its solutions, runs and verdicts.
 use Rattle.lb_flat.proofs.Words
-use Words.{ℕ, List, Kind, Every, In, Expr, Arrow, Fby, Pre, Current, input_kinds, Program, Instance}
-use Words.{instances, Occurrence, node_occurrences, Stream, Inputs, History, IsOrderingOf}
-use Words.{Operation, FlatEquation, Holds, IsCellFit, IsFlatSolution, IsWatched, FlatProgram}
-use Words.{Layout, KeepsOperand, KeepsFlag, HasMemories, HasAllMemories, ◌≡◌, ◌<◌, true, None, []}
-use Words.{◌∷◌, ◌++◌, map, length, take, sym, ap, ◌∙◌, subst, signature, static_refusal, Verdict}
-use Words.{check_refusal, FlatClock, FlatSolves, history_of, IsTrace, inputs_of, flat_verdict}
-use Words.{Ready, run, streams_of, Recording, IsRecording, Option, Some, IfSome, replicate, refl}
-use Words.{holds, Root, Observer, instance_at, is_root, AgreeAt, path_is, solves_same, IsOrderOf}
-use Words.{IsFlatOf, kind_among, layout, ◌≤◌, inl, AreApart, HasReads, IsExpansionOf, IsGiven}
-use Words.{Chain, Leads, by_way, more_reads, one_read, reads_it, equation_reads, get_or, arith}
-use Words.{length-map-range_with_len, get_or-map-range_with_len, Passed, program_of, ◌↔◌, is_row}
-use Words.{Solves, AreSame, fits, column, instants, Every-from, E4, E7, E8, unless}
-use Words.{instantiation_refusal, has_no_parameters, keeps_names, is_well_founded, second_none}
-use Words.{kept}
-use Rattle.{std.proofs.Math.Logic.{∥∥₁_elim, ∥∥₁_map}, lb_check.specs.Clocks.Clock}
+use Words.{AgreeAt, AreApart, AreSame, Arrow, Chain, Current, E4, E7, E8, Every, Every-from, Expr}
+use Words.{Fby, FlatClock, FlatEquation, FlatProgram, FlatSolves, HasAllMemories, HasMemories}
+use Words.{HasReads, History, Holds, IfSome, In, Inputs, Instance, IsCellFit, IsExpansionOf}
+use Words.{IsFlatOf, IsFlatSolution, IsGiven, IsOrderOf, IsOrderingOf, IsRecording, IsTrace}
+use Words.{IsWatched, KeepsFlag, KeepsOperand, Kind, Layout, Leads, List, None, Observer}
+use Words.{Occurrence, Operation, Option, Passed, Pre, Program, Ready, Recording, Root, Solves}
+use Words.{Some, Stream, Verdict, [], ap, arith, by_way, check_refusal, column, equation_reads}
+use Words.{fits, flat_verdict, get_or, get_or-map-range_with_len, has_no_parameters, history_of}
+use Words.{holds, inl, input_kinds, inputs_of, instance_at, instances, instantiation_refusal}
+use Words.{instants, is_root, is_row, is_well_founded, keeps_names, kept, kind_among, layout}
+use Words.{length, length-map-range_with_len, map, more_reads, node_occurrences, one_read, path_is}
+use Words.{program_of, reads_it, refl, replicate, run, second_none, signature, solves_same}
+use Words.{static_refusal, streams_of, subst, sym, take, true, unless, ℕ, ◌++◌, ◌<◌, ◌↔◌, ◌∙◌, ◌∷◌}
+use Words.{◌≡◌, ◌≤◌}
+use Rattle.lb_check.{proofs.programs.SameHistories.{only_verdict, starts_agree}, specs.Clocks.Clock}
 use Rattle.lb_check.specs.{Solutions.HasOneHistory, Verdicts.{HasVerdict, IsOnlyVerdict}}
-use Rattle.lb_check.proofs.programs.SameHistories.{only_verdict, starts_agree}
-use Rattle.lb_flat.specs.{Correct.IsVerdictOf, Fitting.{IsFitting, ClockFits, KindFits}}
-use Rattle.lb_flat.specs.{FlatPrograms.IsStreamed, Prefixes.{IsDetermined, IsPrefix}}
-use Rattle.lb_flat.specs.{PreparedPrograms.prepared_props, RightVerdicts.right_verdict}
-use Rattle.lb_flat.specs.{RightVerdicts.right_verdicts, Standing.StandsForProgram}
-use Rattle.lb_flat.{specs.declared.flat.Ordered.Ordered, proofs.lists.Lists.{Every-map, Every-both}}
-use Rattle.lb_flat.proofs.{lists.Lists.Every-in, ordering.Ordering.{In-map, IsFrom, from_map}}
-use Rattle.lb_flat.proofs.ordering.{Ordering.ready_of, ReadCycles.new_later}
-use Rattle.lb_flat.proofs.runs.{Fitting.solution_fits, Judging.{flat_ends, streams_taken}}
-use Rattle.lb_flat.proofs.runs.{Judging.instances_prefix, RecordedInputs.trace_given}
-use Rattle.lb_flat.proofs.runs.Running.{unique, exists}
+use Rattle.lb_flat.proofs.{lists.Lists.{Every-both, Every-in, Every-map}, ordering.Ordering.In-map}
+use Rattle.lb_flat.proofs.ordering.{Ordering.{IsFrom, from_map, ready_of}, ReadCycles.new_later}
+use Rattle.lb_flat.proofs.runs.{Fitting.solution_fits, Judging.{flat_ends, instances_prefix}}
+use Rattle.lb_flat.proofs.runs.{Judging.streams_taken, RecordedInputs.trace_given, Running.exists}
+use Rattle.lb_flat.{proofs.runs.Running.unique, specs.{Correct.IsVerdictOf, Fitting.ClockFits}}
+use Rattle.lb_flat.specs.{Fitting.{IsFitting, KindFits}, FlatPrograms.IsStreamed}
+use Rattle.lb_flat.specs.{Prefixes.{IsDetermined, IsPrefix}, PreparedPrograms.prepared_props}
+use Rattle.lb_flat.specs.{RightVerdicts.{right_verdict, right_verdicts}, Standing.StandsForProgram}
+use Rattle.{lb_flat.specs.declared.flat.Ordered.Ordered, std.proofs.Math.Logic.{∥∥₁_elim, ∥∥₁_map}}
 
 -- A flat program put in order has the same solutions, watched elements and memories.
 
@@ -124,8 +122,7 @@ module _ (P : Program) (Y : Layout) (kinds : ℕ → Kind) (f : FlatProgram) (Q 
   memories_there here k n (Pre a) h = operand_there here k _ _ h
   memories_there here k n (Current a) h = operand_there here k _ _ h
   memories_there here k n (Arrow a b) h = flag_there here k _ h
-  memories_there here k n (Fby a b) h =
-      (operand_there here k _ _ h.0, flag_there here k _ h.1)
+  memories_there here k n (Fby a b) h = (operand_there here k _ _ h.0, flag_there here k _ h.1)
   memories_there here k n e h = tt
 
   -- the memories of all operators are in the flat program in order too
@@ -253,8 +250,7 @@ module _ (P : Program) (f : FlatProgram) (s : IsFlatOf P f) where
 
   -- the flat program that `order` makes stands for the program too
   pub flat_in_order : (g : FlatProgram) → IsOrderOf f g → IsFlatOf P g
-  flat_in_order g o =
-      subst (λ h. IsFlatOf P h) (sym o.same) (flat_ordered g.equations o.ordering)
+  flat_in_order g o = subst (λ h. IsFlatOf P h) (sym o.same) (flat_ordered g.equations o.ordering)
 
   -- ## Histories
 
@@ -414,14 +410,11 @@ pub stands_for : (P : Program) (f : FlatProgram) → IsFlatOf P f → StandsForP
 stands_for P f flat = ∣ (P, flat) ∣₁
 
 -- where a flat program stands for a program, so does the flat program in order
-pub stands_in_order :
-    (f g : FlatProgram) → IsOrderOf f g → StandsForProgram f → StandsForProgram g
-stands_in_order f g order stands =
-    ∥∥₁_map stands (λ s. (s.0, flat_in_order s.0 f s.1 g order))
+pub stands_in_order : (f g : FlatProgram) → IsOrderOf f g → StandsForProgram f → StandsForProgram g
+stands_in_order f g order stands = ∥∥₁_map stands (λ s. (s.0, flat_in_order s.0 f s.1 g order))
 
 -- the equations of an ordered program can be computed one after the other
-pub ordered_ready :
-    (o : Ordered) → Ready o.program.size [] (program_of o.program).equations
+pub ordered_ready : (o : Ordered) → Ready o.program.size [] (program_of o.program).equations
 ordered_ready o = ready_of o.program.size (program_of o.program).equations o.in_order
 
 -- ## Verdicts

@@ -24,5 +24,4 @@ loop-i-preserved c =
     ]
 
 pub returns-clause-row : goal.returns-clause-row
-returns-clause-row c =
-    all_filled _ _ _ _ _ _ c.loop-i-test.false c.loop-i.invariant
+returns-clause-row c = all_filled _ _ _ _ _ _ c.loop-i-test.false c.loop-i.invariant

@@ -12,5 +12,4 @@ loop-i-preserved c =
     (sym c.is_bad.ensures ∙ c.if-is_bad.false)
 
 pub returns : goal.returns
-returns c =
-    finds_none _ _ _ c.requires c.loop-i.invariant c.loop-i-test.false c.loop-i.auto.i-end
+returns c = finds_none _ _ _ c.requires c.loop-i.invariant c.loop-i-test.false c.loop-i.auto.i-end

@@ -6,5 +6,4 @@ loop-i-preserved c =
     fill_step _ _ _ _ _ _ _ _ c.loop-i-test.true c.loop-i.invariant c.input_at.ensures
 
 pub returns-clause-read : goal.returns-clause-read
-returns-clause-read c =
-    all_filled _ _ _ _ _ _ c.loop-i-test.false c.loop-i.invariant
+returns-clause-read c = all_filled _ _ _ _ _ _ c.loop-i-test.false c.loop-i.invariant

@@ -54,8 +54,7 @@ returns-clause-causal c P expansion =
     (ready_of p.size qs ordered.in_order)
 
 pub returns-clause-order : goal.returns-clause-order
-returns-clause-order c =
-    is_order c.args.flat.program c.in_ok-equations.ensures.order
+returns-clause-order c = is_order c.args.flat.program c.in_ok-equations.ensures.order
 
 -- a cycle that is found is a cycle of each program that the equations come from
 of_cyclic : (f : judging.FlatProgram) (e : OrderError) → IsCycleFound f e → AreOfCyclic f e

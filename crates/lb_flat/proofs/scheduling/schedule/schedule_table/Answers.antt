@@ -24,8 +24,7 @@ read_cycle-requires-clause-stuck c = record {
   table = c.requires.table;
   marks = c.in_ok-schedule_all.ensures.state.marks;
   stuck = rw c.as_slice-clocks.ensures.value at c.in_ok-schedule_all.ensures.stuck;
-  settled =
-      rw c.as_slice-clocks.ensures.value at c.in_ok-schedule_all.ensures.state.settled;
+  settled = rw c.as_slice-clocks.ensures.value at c.in_ok-schedule_all.ensures.state.settled;
 }
 
 pub read_cycle-requires-clause-from : goal.read_cycle-requires-clause-from
