@@ -1,26 +1,28 @@
 -- The clocks of a table by the formula wait for elements of variables, on clocks of the table; each
 -- is the instants of its parent at which its element has its sign.
 use Rattle.lb_expand.proofs.Words
-use Words.{◌≡◌, ◌⊎◌, inl, inr, ℕ, zero, suc, ◌+◌, ◌-◌, ◌*◌, ◌<◌, ◌≤◌, Bool, true, false, Option}
-use Words.{Some, None, List, [], ◌∷◌, length, get_or, refl, ap, ap₂, sym, ◌∙◌, subst, arith, nat_lt}
-use Words.{slice_get, length-map, take_all, get_or_from_slice_get, slice_get_within, same_Some}
-use Words.{ltb-true, ltb-false, Every, In, Name, Declaration, item_at, variables}
-use Words.{elaborated_program, Program, Instance, Path, Root, Observer, Child, instance_at}
-use Words.{instances, static_refusal, variable_names, in_at, check_refusal, Base, On}
-use Words.{declared_clock, program_elements, IsChecked, serving, site_clock, node_occurrences}
-use Words.{Checking, numbers_below, IsOwn, declared_own, at_path, path_is, AreWhole, path_place}
-use Words.{path_runs, path_before, sign_place, clock_place, IsClockTable, Where, flat_clock, layout}
-use Words.{signs_of, count_at, element_total, IsLayoutOf, sources_of, all_clocks, all_runs}
-use Words.{all_serving, clocks_among, clock_of, IsClock, IsTableClock, AreClocks, ClockId}
-use Rattle.{lb_check.specs.Clocks.Clock, lb_expand.specs.declared.layout.Layout.Layout}
-use Rattle.lb_expand.proofs.clock_tables.AddedClocks.{AreCounted, clocks_long}
-use Rattle.lb_expand.proofs.clock_tables.ClockTable.{caller_of, clock_row, first_signed}
-use Rattle.lb_expand.proofs.clock_tables.{ClockTable.site_is_own, FilledClocks.filled_table}
-use Rattle.lb_expand.proofs.clock_tables.FilledClocks.{own_terms, nodes_found, counted, apart}
-use Rattle.lb_expand.proofs.numbering.{NumberedPlaces.signs_are, NumberedRows.row_count}
-use Rattle.lb_expand.proofs.numbering.{NumberedRows.variables_few, RowChildren.row_number_is}
-use Rattle.lb_expand.proofs.numbering.{RowChildren.variable_place_is, RowInstances.IsRow}
-use Rattle.lb_expand.proofs.{numbering.RowInstances.row_shown, widths.TableSizes.element_total_is}
+use Words.{AreClocks, AreWhole, Base, Bool, Checking, Child, ClockId, Declaration, Every, In}
+use Words.{Instance, IsChecked, IsClock, IsClockTable, IsLayoutOf, IsOwn, IsTableClock, List, Name}
+use Words.{None, Observer, On, Option, Path, Program, Root, Some, Where, [], all_clocks, all_runs}
+use Words.{all_serving, ap, ap₂, arith, at_path, check_refusal, clock_of, clock_place, clocks_among}
+use Words.{count_at, declared_clock, declared_own, elaborated_program, element_total, false}
+use Words.{flat_clock, get_or, get_or_from_slice_get, in_at, inl, inr, instance_at, instances}
+use Words.{item_at, layout, length, length-map, ltb-false, ltb-true, nat_lt, node_occurrences}
+use Words.{numbers_below, path_before, path_is, path_place, path_runs, program_elements, refl}
+use Words.{same_Some, serving, sign_place, signs_of, site_clock, slice_get, slice_get_within}
+use Words.{sources_of, static_refusal, subst, suc, sym, take_all, true, variable_names, variables}
+use Words.{widths_in, zero, ℕ, ◌*◌, ◌+◌, ◌-◌, ◌<◌, ◌∙◌, ◌∷◌, ◌≡◌, ◌≤◌, ◌⊎◌}
+use Rattle.{lb_check.specs.Clocks.Clock, lb_expand.proofs.clock_tables.AddedClocks.AreCounted}
+use Rattle.lb_expand.proofs.clock_tables.{AddedClocks.clocks_long, ClockTable.caller_of}
+use Rattle.lb_expand.proofs.clock_tables.ClockTable.{clock_row, first_signed, site_is_own}
+use Rattle.lb_expand.proofs.clock_tables.FilledClocks.{apart, counted, filled_table, nodes_found}
+use Rattle.lb_expand.proofs.clock_tables.FilledClocks.{own_terms}
+use Rattle.lb_expand.proofs.numbering.{NumberedPlaces.signs_are, NumberedRows.pieces_narrow}
+use Rattle.lb_expand.proofs.numbering.NumberedRows.{row_count, row_narrow}
+use Rattle.lb_expand.proofs.numbering.RowChildren.{row_number_is, variable_place_is}
+use Rattle.lb_expand.proofs.numbering.RowInstances.{IsRow, row_shown}
+use Rattle.lb_expand.proofs.widths.TableSizes.{element_total_is}
+use Rattle.lb_expand.specs.declared.layout.Layout.{Layout}
 use Rattle.lb_static.specs.declared.table.Instance as row
 use Rattle.lb_flat.specs.declared.equation.Clock as table
 
@@ -44,8 +46,7 @@ module _ (P : Program) (accepted : static_refusal P ≡ None) (checked : check_r
   base_within n e = absurd cc
 
   -- the clock of an instance is one of the table
-  runs_within :
-      (p : Path) (c : Instance) → instance_at P p ≡ Some c → IsClock clocks (runs p)
+  runs_within : (p : Path) (c : Instance) → instance_at P p ≡ Some c → IsClock clocks (runs p)
   runs_within Root c at = subst (IsClock clocks) (sym is.root) base_within
   runs_within Observer c at = subst (IsClock clocks) (sym is.observer) base_within
   runs_within (Child p call index) c at =
@@ -279,6 +280,7 @@ module _ (c : Checking) (lawful : IsChecked c) (l : Layout)
   filled_few =
       let n = length c.elab.table.instances.items in
       let all = laid.variables n (omega arith) in
-      let few = variables_few P c.elab.reached c.elab.table lawful.elaborated.reached
-      lawful.elaborated.table lawful.elaborated.accepted n in
+      let few = pieces_narrow (widths_in c.elab.reached c.elab.table) c.elab.table.instances.items
+      (row_narrow P c.elab.reached c.elab.table lawful.elaborated.reached lawful.elaborated.table
+      lawful.elaborated.accepted) n in
       omega (arith, long, all, few, small)

@@ -1,34 +1,33 @@
 -- In the layout by numbers: the clocks of a callee's parameters, and the table of clocks by the
 -- formula.
 use Rattle.lb_expand.proofs.Words
-use Words.{◌≡◌, inl, ℕ, suc, ◌<◌, Bool, true, Some, None, List, [], ◌∷◌, ◌++◌, length, map, zip}
-use Words.{refl, ap, sym, ◌∙◌, subst, arith, ◌>>=◌, Every, In, either_or, listed, ArrayIterator}
-use Words.{Name, Static, Node_named, Symbol, Expr, Call, Iterate, Exprs, Declaration, Node}
-use Words.{Statement, Equation, Assertion, all_in, and_first, and_second, Program, Instance, Child}
-use Words.{Site, call_site, node_named, instances, static_refusal, check_refusal, is_clock}
-use Words.{are_declared_clocks, is_occurrence_clocked, left_clocks, are_on_results}
-use Words.{is_statement_clocked, Given, declared_clock, base_clock, outer, given_outputs, ungrouped}
-use Words.{is_site, call_at, given_to, whole_clock, site_clock, runs_on, Occurrence, at}
-use Words.{node_occurrences, statements, History, number, clocked, in_first, in_second, Every-from}
-use Words.{IsInstanceOf, instance_there, clock_same, at_path, IsOver, Layout, flat_clock}
-use Words.{numbered_clock, layout, zero, ◌+◌, ◌*◌, ◌≤◌, Option, slice_get, same_Some, Path, Root}
-use Words.{Observer, instance_at, WholeClock, Every-at, instantiation_kept, IsOwn, declared_own}
-use Words.{called, path_is, in_instances, call_of_site, site_occurs, ClockId, sign_place}
-use Words.{clock_place, IsClockTable, FlatClock, Always, Where, where_signed, clock_within}
-use Words.{clock_of, ◌||◌, not, nat_eq, Base, On, Always_whole, Where_whole, call_of, own_right}
-use Rattle.{std.specs.Prelude.filter, lb_check.specs.ClockRules.{are_clocks, are_given_variables}}
-use Rattle.lb_check.specs.{ClockRules.{is_call_clocked, is_base_clocked_node}, Clocks.Clock}
-use Rattle.lb_check.specs.{Clocks.{given_inputs, result_clocks, depth}, Elements.numbers_of}
-use Rattle.lb_check.specs.Needs.{is_clock_parameter, lefts_at, given_parameters}
-use Rattle.lb_check.proofs.clocking.DeclaredClocks.{own_deep, base_own}
-use Rattle.lb_check.proofs.clocking.GivenParameters.{called_runs, IsGiven, outer_before}
-use Rattle.lb_check.proofs.clocking.GivenParameters.{over_before, over_parameters, on_base}
-use Rattle.lb_check.proofs.clocking.GivenParameters.{input_given, result_given, parameter_given}
-use Rattle.lb_check.proofs.clocking.GivenParameters.{over_served, called_clock}
-use Rattle.lb_check.proofs.{clocking.NamedClocks.called_passes, definitions.CallNumbers.lefts_of}
-use Rattle.lb_check.proofs.definitions.CallNumbers.{right_in}
+use Words.{Always, Always_whole, ArrayIterator, Assertion, Base, Bool, Call, Child, ClockId}
+use Words.{Declaration, Equation, Every, Every-at, Every-from, Expr, Exprs, FlatClock, Given}
+use Words.{History, In, Instance, IsClockTable, IsInstanceOf, IsOver, IsOwn, Iterate, Layout, List}
+use Words.{Name, Node, Node_named, None, Observer, Occurrence, On, Option, Path, Program, Root}
+use Words.{Site, Some, Statement, Static, Symbol, Where, Where_whole, WholeClock, [], all_in}
+use Words.{and_first, and_second, ap, are_declared_clocks, are_on_results, arith, at, at_path}
+use Words.{base_clock, call_at, call_of, call_of_site, call_site, called, check_refusal, clock_of}
+use Words.{clock_place, clock_same, clock_within, clocked, declared_clock, declared_own, either_or}
+use Words.{flat_clock, given_outputs, given_to, in_first, in_instances, in_second, inl, instance_at}
+use Words.{instance_there, instances, instantiation_kept, is_clock, is_occurrence_clocked, is_site}
+use Words.{is_statement_clocked, layout, left_clocks, length, listed, map, nat_eq, node_named}
+use Words.{node_occurrences, not, number, numbered_clock, outer, own_right, path_is, refl, runs_on}
+use Words.{same_Some, sign_place, site_clock, site_occurs, slice_get, statements, static_refusal}
+use Words.{subst, suc, sym, true, ungrouped, where_signed, whole_clock, zero, zip, ℕ, ◌*◌, ◌++◌}
+use Words.{◌+◌, ◌<◌, ◌>>=◌, ◌||◌, ◌∙◌, ◌∷◌, ◌≡◌, ◌≤◌}
+use Rattle.lb_check.proofs.clocking.{DeclaredClocks.{base_own, own_deep}, GivenParameters.IsGiven}
+use Rattle.lb_check.proofs.clocking.GivenParameters.{called_clock, called_runs, input_given}
+use Rattle.lb_check.proofs.clocking.GivenParameters.{on_base, outer_before, over_before}
+use Rattle.lb_check.proofs.clocking.GivenParameters.{over_parameters, over_served, parameter_given}
+use Rattle.lb_check.proofs.clocking.{GivenParameters.result_given, NamedClocks.called_passes}
+use Rattle.lb_check.proofs.definitions.CallNumbers.{lefts_of, right_in}
+use Rattle.lb_check.specs.ClockRules.{are_clocks, are_given_variables, is_base_clocked_node}
+use Rattle.lb_check.specs.{ClockRules.is_call_clocked, Clocks.{Clock, depth, given_inputs}}
+use Rattle.lb_check.specs.{Clocks.result_clocks, Elements.numbers_of, Needs.given_parameters}
+use Rattle.lb_check.specs.Needs.{is_clock_parameter, lefts_at}
 use Rattle.lb_expand.proofs.{numbering.NumberedPlaces.flat_is, widths.SoundInstances.RunAt}
-use Rattle.lb_expand.proofs.widths.SoundInstances.{RunsAt}
+use Rattle.{lb_expand.proofs.widths.SoundInstances.RunsAt, std.specs.Prelude.filter}
 use Rattle.lb_flat.specs.declared.equation.Clock as table
 
 -- The clocks of the parameters of a callee are, in the layout by numbers, the clocks that its
@@ -139,8 +138,7 @@ every_applied U s f g (u ∷ us) p = (ap s p.0, every_applied U s f g us p.1)
 
 one_result : (outs : List Declaration) (d : Declaration) → outs ≡ d ∷ [] →
     (b : Bool) → (not (nat_eq (length outs) 1) || b) ≡ true → b ≡ true
-one_result outs d one b e =
-    subst (λ ds. (not (nat_eq (length ds) 1) || b) ≡ true) one e
+one_result outs d one b e = subst (λ ds. (not (nat_eq (length ds) 1) || b) ≡ true) one e
 
 module _ (P : Program) (accepted : static_refusal P ≡ None) (checked : check_refusal P ≡ None)
     (here : Instance) (stands : In here (instances P)) where
@@ -262,8 +260,7 @@ module _ (P : Program) (accepted : static_refusal P ≡ None) (checked : check_r
         ≡ flat_clock (layout P) here.path k
     result_clock d one =
         let over = result_given callee declares here.node es given_all d one in
-        let stands_there : In d callee.outputs =
-        subst (λ ds. In d ds) (sym one) (inl refl) in
+        let stands_there : In d callee.outputs = subst (λ ds. In d ds) (sym one) (inl refl) in
         let b = base_clock k callee in
         let own_clock = declared_clock callee d.name in
         let test = one_result callee.outputs d one
@@ -424,8 +421,7 @@ module _ (P : Program) (accepted : static_refusal P ≡ None) (checked : check_r
   runs_there H k n e i = tt
 
   -- the instances of each call run on the flat clock of the call
-  pub runs_at :
-      (H : History) → Every (RunsAt (layout P) P H here) (node_occurrences P here.node)
+  pub runs_at : (H : History) → Every (RunsAt (layout P) P H here) (node_occurrences P here.node)
   runs_at H =
       Every-from (RunsAt (layout P) P H here) (node_occurrences P here.node)
       (λ o i. runs_there H o.clock o.calls_before o.expr i)

@@ -1,42 +1,42 @@
 -- The table of clocks that is filled row by row is the table of the formula: each clock of a row is
 -- found in it at its place.
 use Rattle.lb_expand.proofs.Words
-use Words.{◌≡◌, ℕ, ◌+◌, ◌-◌, ◌*◌, ◌<◌, ◌≤◌, Bool, true, Option, Some, None, List, [], ◌∷◌, length}
-use Words.{map, get_or, refl, ap, ap₂, sym, ◌∙◌, subst, arith, find, nat_lt, slice_get, list_all}
-use Words.{nat_tests, length-map, take_all, slice_get_within, same_Some, lt-ltb, ◌>>=◌, Every, In}
-use Words.{holds, listed, Name, Expr, Call, Declaration, Node, all_in, mapped_from, all_at}
-use Words.{and_first, and_second, variables, Program, Instance, Path, Root, Observer, Child}
-use Words.{instance_at, instances, node_named, node_sites, Site, call_site, static_refusal, IsTable}
-use Words.{paths_of, are_distinct, variable_names, IsReached, source_names, node_of, counts_of}
-use Words.{is_variable, named, Reached, CallId, ResolvedNode, VariableId, InstanceId, Origin}
-use Words.{Specialization, Table, in_at, place_in, check_refusal, are_declared_clocks, Given}
-use Words.{declared_clock, HasFoundClocks, pair_names, Occurrence, node_occurrences, HasClocks}
-use Words.{clock_in, is_clock_within, name_in, declared_in, CallClock, GivenVariable, NodeClocks}
-use Words.{clocked, call_of, instantiation_kept, declared_within, get_name, IsOwn, callee_node}
-use Words.{find_in, called, path_is, at_path, in_instances, call_of_site, own_site, site_occurs}
-use Words.{row_number, variable_place, flat_clock, layout, row_numbers, numbers_at, count_at}
-use Words.{variables_before, element_total, Sources, variable_number, clock_id, found_call, node_at}
-use Words.{given_for, caller_number, no_element, own_element, signed_clock, all_runs, all_serving}
-use Words.{all_clocks, clocks_among, clock_of, ClockId, ElementId, nat_eq, option_map, call_at}
-use Words.{given_to, serving, site_clock, sign_place, clock_place, IsClockTable}
-use Rattle.lb_check.specs.{Elements.numbers_of, FoundTerms.{given_names, are_parameters}}
-use Rattle.lb_check.specs.{FoundTerms.{is_call_within, IsFoundCall}, Needs.{given_at, serves}}
-use Rattle.lb_check.specs.{PlacedClocks.call_in, declared.own_clock.Clock.{Clock, TheVariants.Base}}
-use Rattle.lb_check.specs.declared.own_clock.Clock.TheVariants.{On}
+use Words.{Bool, Call, CallClock, CallId, Child, ClockId, Declaration, ElementId, Every, Expr}
+use Words.{Given, GivenVariable, HasClocks, HasFoundClocks, In, Instance, InstanceId, IsClockTable}
+use Words.{IsOwn, IsReached, IsTable, List, Name, Node, NodeClocks, None, Observer, Occurrence}
+use Words.{Option, Origin, Path, Program, Reached, ResolvedNode, Root, Site, Some, Sources}
+use Words.{Specialization, Table, VariableId, [], all_at, all_clocks, all_in, all_runs, all_serving}
+use Words.{and_first, and_second, ap, ap₂, are_declared_clocks, are_distinct, arith, at_path}
+use Words.{call_at, call_of, call_of_site, call_site, called, callee_node, caller_number}
+use Words.{check_refusal, clock_id, clock_in, clock_of, clock_place, clocked, clocks_among}
+use Words.{count_at, counts_of, declared_clock, declared_in, declared_within, element_total, find}
+use Words.{find_in, flat_clock, found_call, get_name, get_or, given_for, given_to, holds, in_at}
+use Words.{in_instances, instance_at, instances, instantiation_kept, is_clock_within, is_variable}
+use Words.{layout, length, length-map, list_all, listed, lt-ltb, map, mapped_from, name_in, named}
+use Words.{nat_eq, nat_lt, nat_tests, no_element, node_at, node_named, node_occurrences, node_of}
+use Words.{node_sites, numbers_at, option_map, own_element, own_site, pair_names, path_is, paths_of}
+use Words.{place_in, refl, row_number, row_numbers, same_Some, serving, sign_place, signed_clock}
+use Words.{site_clock, site_occurs, slice_get, slice_get_within, source_names, static_refusal}
+use Words.{subst, sym, take_all, true, variable_names, variable_number, variable_place, variables}
+use Words.{variables_before, widths_in, ℕ, ◌*◌, ◌+◌, ◌-◌, ◌<◌, ◌>>=◌, ◌∙◌, ◌∷◌, ◌≡◌, ◌≤◌}
 use Rattle.lb_check.proofs.clocking.{ClockTests.declared_is, OwnTermClocks.term_clocks_own}
-use Rattle.lb_check.proofs.programs.ServedVariables.{has_first}
-use Rattle.lb_expand.{specs.ClockTables.IsClockRow, proofs.clock_tables.AddedClocks.AreCounted}
+use Rattle.lb_check.{proofs.programs.ServedVariables.has_first, specs.Elements.numbers_of}
+use Rattle.lb_check.specs.FoundTerms.{IsFoundCall, are_parameters, given_names, is_call_within}
+use Rattle.lb_check.specs.{Needs.{given_at, serves}, PlacedClocks.call_in}
+use Rattle.lb_check.specs.declared.own_clock.Clock.{Clock, TheVariants.{Base, On}}
+use Rattle.lb_expand.proofs.clock_tables.AddedClocks.{AreCounted, clocks_long, clocks_read}
 use Rattle.lb_expand.proofs.clock_tables.AddedClocks.{runs_called, runs_first, runs_observer}
-use Rattle.lb_expand.proofs.clock_tables.AddedClocks.{serving_own, serving_given, clocks_long}
-use Rattle.lb_expand.proofs.clock_tables.{AddedClocks.clocks_read, ClockTable.clock_row}
-use Rattle.lb_expand.proofs.{frames.RowContexts.{own_resolved, own_names}, lists.Lists.found_pair}
-use Rattle.lb_expand.proofs.numbering.{NumberedPlaces.signs_are, NumberedRows.variables_few}
-use Rattle.lb_expand.proofs.numbering.NumberedRows.{next_before, row_count, count_next}
-use Rattle.lb_expand.proofs.numbering.NumberedRows.{before_later, variable_there, row_variables}
-use Rattle.lb_expand.proofs.numbering.{NumberedRows.own_numbers_are, RowChildren.called_is}
-use Rattle.lb_expand.proofs.numbering.RowChildren.{origin_called, row_number_is, variable_place_is}
-use Rattle.lb_expand.proofs.numbering.RowInstances.{IsRow, origin_path, root_path, observer_path}
-use Rattle.lb_expand.proofs.numbering.RowInstances.{row_of, row_shown}
+use Rattle.lb_expand.proofs.clock_tables.AddedClocks.{serving_given, serving_own}
+use Rattle.lb_expand.proofs.{clock_tables.ClockTable.clock_row, frames.RowContexts.own_names}
+use Rattle.lb_expand.proofs.{frames.RowContexts.own_resolved, lists.Lists.found_pair}
+use Rattle.lb_expand.proofs.numbering.{NumberedPlaces.signs_are, NumberedRows.before_later}
+use Rattle.lb_expand.proofs.numbering.NumberedRows.{count_next, next_before, own_numbers_are}
+use Rattle.lb_expand.proofs.numbering.NumberedRows.{pieces_narrow, row_count, row_narrow}
+use Rattle.lb_expand.proofs.numbering.NumberedRows.{row_variables, variable_there}
+use Rattle.lb_expand.proofs.numbering.RowChildren.{called_is, origin_called, row_number_is}
+use Rattle.lb_expand.proofs.numbering.{RowChildren.variable_place_is, RowInstances.IsRow}
+use Rattle.lb_expand.proofs.numbering.RowInstances.{observer_path, origin_path, root_path, row_of}
+use Rattle.lb_expand.{proofs.numbering.RowInstances.row_shown, specs.ClockTables.IsClockRow}
 use Rattle.lb_static.specs.declared.table.Instance as row
 use Rattle.lb_static.specs.declared.table.Origin.TheVariants as origin
 use Rattle.lb_expand.specs.ClockPlaces as places
@@ -51,9 +51,6 @@ no_root p c i e = absurd cc
 
 no_observer : (p : Path) (c i : ℕ) → Child p c i ≡ Observer → ⊥
 no_observer p c i e = absurd cc
-
-later : (j k : ℕ) → j ≤ k → (d : ℕ) × (j + d ≡ k)
-later j k le = (k - j, omega (arith, le))
 
 -- the pair that is given for a name, if there is one
 abbrev by_name : Name → Given → Option (Name × Name)
@@ -86,7 +83,8 @@ module _ (P : Program) (r : Reached) (t : Table) (reached : IsReached P r)
   vars_few : (k : ℕ) → k ≤ length t.instances.items → get_or vars k 0 ≤ 65536
   vars_few k le =
       let own = kept k le in
-      let all = variables_few P r t reached table accepted k in
+      let all = pieces_narrow (widths_in r t) t.instances.items (row_narrow P r t reached table
+      accepted) k in
       omega (arith, own, all, few)
 
   -- the number of variable `x` of row `k` is `x` behind the first variable of the row
@@ -143,11 +141,6 @@ module _ (P : Program) (r : Reached) (t : Table) (reached : IsReached P r)
         own_clocks.resolved.as_many node_same w in
         get_name (variables here.node) y.0 v.declaration v.stands ∙ ap (λ x. Some x) (sym v.named)
 
-    name_in_node :
-        (y : VariableId) → is_variable (counts_of is.node) y ≡ true →
-        In (name_in is.node y) (variable_names here.node)
-    name_in_node y w = in_at (variable_names here.node) y.0 (name_in is.node y) (name_stands y w)
-
     own_number : row_number P here.path ≡ k
     own_number = row_number_is P r t table k i here is
 
@@ -167,7 +160,8 @@ module _ (P : Program) (r : Reached) (t : Table) (reached : IsReached P r)
         ≡ Some (own_element vars starts k y.0).0
     own_first y w =
         let x = name_in is.node y in
-        let first = has_first P accepted here stands _ (name_in_node y w) in
+        let first = has_first P accepted here stands _ (in_at (variable_names here.node) y.0
+        (name_in is.node y) (name_stands y w)) in
         let same : numbers_of P here.path x ≡ numbers_at vars starts k y.0 =
         sym (numbers k y.0 ∙ own_numbers_are P r t reached table accepted k i here is y w) in
         cc (first_held (numbers_of P here.path x) first.0 first.1)
@@ -193,8 +187,7 @@ module _ (P : Program) (r : Reached) (t : Table) (reached : IsReached P r)
       at_path_of : (p : Path) → slice_get (paths_of t) k ≡ Some p → here.path ≡ p
       at_path_of p e = same_Some here.path p (sym is.path_is ∙ e)
 
-      by : (o : Origin) → i.origin ≡ o →
-          get_or (all_runs filled) k None ≡ path_runs here.path
+      by : (o : Origin) → i.origin ≡ o → get_or (all_runs filled) k None ≡ path_runs here.path
       by origin.UnderTest e =
           runs_first filled counted k i is.row_is e
           ∙ sym (ap path_runs (at_path_of Root (root_path P r t table k i is.row_is e)))
@@ -498,13 +491,10 @@ module _ (P : Program) (r : Reached) (t : Table) (reached : IsReached P r)
           let next = counted.next u.j up_within in
           let own_within = row_within k i here is in
           let low = u.low in
-          let gap = later (u.j + 1) k (omega (arith, low)) in
-          let later_one = before_later P r t reached table accepted vars kept (u.j + 1) gap.0
-          (let all = gap.1 in omega (arith, all, own_within)) in
-          let there_k : get_or vars (u.j + 1 + gap.0) 0 ≡ get_or vars k 0 =
-          ap (λ m. get_or vars m 0) gap.1 in
+          let later = before_later P r t reached table accepted vars kept (u.j + 1) k
+          (omega (arith, low)) (omega (arith, own_within)) in
           let small : variable_number vars u.j g.caller.0 < get_or vars k 0 =
-          omega (arith, is_number, below, next, later_one, there_k) in
+          omega (arith, is_number, below, next, later) in
           let given = serving_given filled counted k i is.row_is y.0
           (variable_low k i here is y w) (variable_number vars u.j g.caller.0) caller_number_is
           small in
@@ -625,13 +615,10 @@ module _ (P : Program) (r : Reached) (t : Table) (reached : IsReached P r)
       let next = next_before P r t reached table accepted vars kept u.j u.up u.caller u.above in
       let within = slice_get_within t.instances.items k.0 w.0 w.1.row_is in
       let low = u.low in
-      let gap = later (u.j + 1) k.0 (omega (arith, low)) in
-      let all = gap.1 in
-      let more = before_later P r t reached table accepted vars kept (u.j + 1) gap.0
-      (omega (arith, all, within)) in
-      let here : get_or vars (u.j + 1 + gap.0) 0 ≡ path_before (Child p call index) =
-      ap (λ m. get_or vars m 0)
-      (all ∙ sym (ap (row_number P) (sym path) ∙ own_number k.0 w.0 c w.1)) in
+      let more = before_later P r t reached table accepted vars kept (u.j + 1) k.0
+      (omega (arith, low)) (omega (arith, within)) in
+      let here : get_or vars k.0 0 ≡ path_before (Child p call index) =
+      ap (λ m. get_or vars m 0) (sym (ap (row_number P) (sym path) ∙ own_number k.0 w.0 c w.1)) in
       let there : path_before p ≡ get_or vars u.j 0 =
       ap (λ m. get_or vars m 0)
       (ap (row_number P) (sym u.path) ∙ own_number u.j u.up u.caller u.above) in
@@ -646,12 +633,8 @@ module _ (P : Program) (r : Reached) (t : Table) (reached : IsReached P r)
       let n = length t.instances.items in
       let next = next_before P r t reached table accepted vars kept k.0 w.0 here w.1 in
       let within = slice_get_within t.instances.items k.0 w.0 w.1.row_is in
-      let gap = later (k.0 + 1) n (omega (arith, within)) in
-      let all = gap.1 in
-      let more = before_later P r t reached table accepted vars kept (k.0 + 1) gap.0
-      (omega (arith, all)) in
-      let last : get_or vars (k.0 + 1 + gap.0) 0 ≡ get_or vars n 0 =
-      ap (λ m. get_or vars m 0) all in
+      let more = before_later P r t reached table accepted vars kept (k.0 + 1) n
+      (omega (arith, within)) (omega arith) in
       let long = clocks_long filled counted (all_runs filled) (all_serving filled) nodes_found n
       (omega arith) in
       let whole : length (all_clocks filled) ≡ 2 * get_or vars n 0 =
@@ -660,7 +643,7 @@ module _ (P : Program) (r : Reached) (t : Table) (reached : IsReached P r)
       ∙ long in
       let start : path_before here.path ≡ get_or vars k.0 0 =
       ap (λ m. get_or vars m 0) (own_number k.0 w.0 here w.1) in
-      omega (arith, next, more, last, whole, start)
+      omega (arith, next, more, whole, start)
 
   -- the clocks that are filled are the table of the formula
   pub filled_table :
@@ -701,5 +684,5 @@ module _ (P : Program) (r : Reached) (t : Table) (reached : IsReached P r)
       own Base w = tt
       own (On x sign) w = (
         ap (λ n. declared_clock n (name_in is.node x)) (sym (node_same k i here is)),
-        name_in_node k i here is x w,
+        in_at (variable_names here.node) x.0 (name_in is.node x) (name_stands k i here is x w),
       )

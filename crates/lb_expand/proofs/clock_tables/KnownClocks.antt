@@ -31,8 +31,7 @@ use Rattle.lb_expand.proofs.reads.{LinkTerms.{IsAwaited, IsRunning}, LinkWords.P
 -- the numbers are those of the elements, one by one
 abbrev pub AreNumbers : Program → List ℕ → List Element → Type 0
 AreNumbers P [] [] = Unit {0}
-AreNumbers P (i ∷ is) (x ∷ xs) =
-    (slice_get (program_elements P) i ≡ Some x) × AreNumbers P is xs
+AreNumbers P (i ∷ is) (x ∷ xs) = (slice_get (program_elements P) i ≡ Some x) × AreNumbers P is xs
 AreNumbers P is xs = ⊥
 
 -- each of the elements `xs` has a number in `is`

@@ -101,8 +101,7 @@ module _ (t : Texts) (n : Counts) where
         one_first t.variables n.variables x.0 (whens_in a) (clocks_of (shown a))
         (and_first (is_variable n x) (is_within n a) w)
         (whens_are a (and_second (is_variable n x) (is_within n a) w))
-    whens_are (Replicate' p a i) w =
-        whens_are a (and_second (is_static n i) (is_within n a) w)
+    whens_are (Replicate' p a i) w = whens_are a (and_second (is_static n i) (is_within n a) w)
     whens_are (Index' p a i) w = whens_are a (and_second (is_static n i) (is_within n a) w)
     whens_are (Slice' p a i j) w =
         whens_are a (and_second (is_static n j) (is_within n a)
@@ -278,8 +277,7 @@ row_is : (t : Term) (es : Vec Term Global) →
     whens_in_row (row_in t).1 ≡ whens_in_all es.items
 row_is t es is = list_of_row (row_in t).0 (row_in t).1 ∙ ap whens_in_all is
 
-pub row_whens : (t : Term) (es : Vec Term Global) → IsRow t es →
-    whens_in t ≡ whens_in_all es.items
+pub row_whens : (t : Term) (es : Vec Term Global) → IsRow t es → whens_in t ≡ whens_in_all es.items
 row_whens t es (inl e) = rw e (row_is (Array es) es (items_hidden-the_row-Term-0 es))
 row_whens t es (inr (inl e)) = rw e (row_is (AtMostOne es) es (items_hidden-the_row-Term-0 es))
 row_whens t es (inr (inr (inl e))) = rw e (row_is (Nor es) es (items_hidden-the_row-Term-0 es))

@@ -1,37 +1,37 @@
 -- A variable that serves for another in a clock has its streams.
 use Rattle.lb_expand.proofs.Words
-use Words.{◌≡◌, inl, inr, ℕ, ◌+◌, ◌<◌, Bool, true, false, cond, Option, Some, None, List, [], ◌∷◌}
-use Words.{◌++◌, length, map, flat_map, refl, ap, ap₂, sym, ◌∙◌, subst, arith, bytes_eq}
-use Words.{bytes_eq-Decides, same_Some, ◌>>=◌, Every, In, all_some, either_or, listed, Name, Static}
-use Words.{Node_named, Symbol, Expr, Variable, Group, Call, Iterate, Exprs, Nil, Cons, Declaration}
-use Words.{Node, Statement, Equation, DataType, are_types}
-use Words.{variables, variable_type, width, Program, Instance, Path, Root, Observer, Child, Site}
-use Words.{call_site, instance_at, instances, instance_count, callee_of, node_named, static_refusal}
-use Words.{named, check_refusal, found_from, site_clock, Occurrence, at, call_count}
-use Words.{node_occurrences, statements, Stream, Inputs, Receives, iterator_inputs, IsCallJoined}
-use Words.{IsIteratorJoined, IsJoined, AreEqual, Fits, SolvesAt, Solves, History, presence, signed}
-use Words.{streams, all_streams, argument_streams, outputs_of, number, type_of_name, data_types}
-use Words.{Every-at, own_right, instantiation_kept, Every-first, Every-second, found_in, find_in}
-use Words.{callee_node, called, path_is, at_path, in_instances, IsOver, found_some, IsVariable}
-use Words.{occurrence_fits, own_site, call_of_site, bound, site_occurs, found_name, FlatClock}
-use Words.{instants, flat_clock, where_signed, layout, argument_clocks, call_clocks, FlatEquation}
-use Words.{column, Holds, Layout, Target, targets, copied, received, call_copies, emit, emit_each}
-use Words.{Base, On, as_variable, declared_clock, given_outputs, ungrouped, outer, base_clock}
-use Rattle.lb_check.specs.{Clocks.{Clock, given_inputs}, Solutions.IsJoinedAt}
-use Rattle.lb_check.proofs.{lists.Members.Every-range, programs.ServedVariables.zip_first}
-use Rattle.lb_check.proofs.programs.ServedVariables.{IsCallOf, IsRightOf, serving_same}
-use Rattle.lb_check.proofs.programs.ServedVariables.{output_value, left_variable, site_over}
-use Rattle.lb_check.proofs.programs.TypedOccurrences.{named_there, ungrouped_types, call_typed}
-use Rattle.lb_check.proofs.programs.TypedOccurrences.{left_types}
-use Rattle.lb_flat.proofs.lists.Lists.{map-maps}
-use Rattle.lb_expand.proofs.{clock_tables.ClockTable.instance_runs, copies.CallCopies.IsArgument}
-use Rattle.lb_expand.proofs.copies.CallCopies.{IsResult, argument_copied, result_copied, call_found}
-use Rattle.lb_expand.proofs.copies.CallCopies.{grouped_found, Within, HasCopies, IsCopied}
-use Rattle.lb_expand.proofs.copies.CallCopies.{IsLeftCopied}
-use Rattle.lb_expand.proofs.numbering.NumberedPlaces.{places_nowhere, signs_nowhere, signs_are}
-use Rattle.lb_expand.proofs.numbering.{NumberedPlaces.places_width, ReceivedInputs.target_count}
+use Words.{AreEqual, Base, Bool, Call, Child, Cons, DataType, Declaration, Equation, Every}
+use Words.{Every-at, Every-first, Every-second, Expr, Exprs, Fits, FlatClock, FlatEquation, Group}
+use Words.{History, Holds, In, Inputs, Instance, IsCallJoined, IsIteratorJoined, IsJoined, IsOver}
+use Words.{IsVariable, Iterate, Layout, List, Name, Nil, Node, Node_named, None, Observer}
+use Words.{Occurrence, On, Option, Path, Program, Receives, Root, Site, Solves, SolvesAt, Some}
+use Words.{Statement, Static, Stream, Symbol, Target, Variable, [], all_some, all_streams, ap, ap₂}
+use Words.{are_types, argument_clocks, argument_streams, arith, as_variable, at, at_path}
+use Words.{base_clock, bound, bytes_eq, bytes_eq-Decides, call_clocks, call_copies, call_count}
+use Words.{call_of_site, call_site, called, callee_node, callee_of, check_refusal, column, cond}
+use Words.{copied, data_types, declared_clock, either_or, emit, emit_each, false, find_in}
+use Words.{flat_clock, flat_map, found_from, found_in, found_name, found_some, given_outputs}
+use Words.{in_instances, inl, inr, instance_at, instance_count, instances, instantiation_kept}
+use Words.{instants, iterator_inputs, layout, length, listed, map, named, node_named}
+use Words.{node_occurrences, number, occurrence_fits, outer, outputs_of, own_right, own_site}
+use Words.{path_is, presence, received, refl, same_Some, signed, site_clock, site_occurs}
+use Words.{statements, static_refusal, streams, subst, sym, targets, true, type_of_name, ungrouped}
+use Words.{variable_type, variables, where_signed, width, ℕ, ◌++◌, ◌+◌, ◌<◌, ◌>>=◌, ◌∙◌, ◌∷◌, ◌≡◌}
+use Rattle.lb_check.proofs.{lists.Members.Every-range, programs.ServedVariables.IsCallOf}
+use Rattle.lb_check.proofs.programs.ServedVariables.{IsRightOf, left_variable, output_value}
+use Rattle.lb_check.proofs.programs.ServedVariables.{serving_same, site_over, zip_first}
+use Rattle.lb_check.proofs.programs.TypedOccurrences.{call_typed, left_types, named_there}
+use Rattle.lb_check.{proofs.programs.TypedOccurrences.ungrouped_types, specs.Clocks.Clock}
+use Rattle.lb_check.specs.{Clocks.given_inputs, Solutions.IsJoinedAt}
+use Rattle.lb_expand.proofs.{clock_tables.ClockTable.instance_runs, copies.CallCopies.HasCopies}
+use Rattle.lb_expand.proofs.copies.CallCopies.{IsArgument, IsCopied, IsLeftCopied, IsResult, Within}
+use Rattle.lb_expand.proofs.copies.CallCopies.{argument_copied, call_found, grouped_found}
+use Rattle.lb_expand.proofs.copies.CallCopies.{result_copied}
+use Rattle.lb_expand.proofs.numbering.NumberedPlaces.{places_nowhere, places_width, signs_are}
+use Rattle.lb_expand.proofs.numbering.{NumberedPlaces.signs_nowhere, ReceivedInputs.target_count}
 use Rattle.lb_expand.proofs.solutions.{FlatHistories.halves, Placing.{columns, targeted}}
-use Rattle.lb_expand.proofs.widths.TypeFacts.{each, width_of, same_count, types_first}
+use Rattle.lb_expand.proofs.widths.TypeFacts.{each, same_count, types_first, width_of}
+use Rattle.lb_flat.proofs.lists.Lists.{map-maps}
 
 -- In a history that solves an accepted program, a variable that serves for another in a clock has
 -- the streams of the other, and each instance runs on its clock. So do streams of flat elements
@@ -266,21 +266,14 @@ module _ (P : Program) (accepted : static_refusal P ≡ None) (checked : check_r
   module _ (F : List Stream)
       (same : (here : Instance) → In here (instances P) → (x : Name) → IsVariable here.node x →
       columns X F ((layout P).places here.path x) ≡ H.columns here.path x) where
-    parameter_variable :
-        (c : Instance) (x : Name) → In x (map (λ d. d.name) c.node.inputs) → IsVariable c.node x
-    parameter_variable c x i = names_first x c.node.inputs (c.node.outputs ++ c.node.locals) i
-
-    output_variable :
-        (c : Instance) (x : Name) → In x (map (λ d. d.name) c.node.outputs) → IsVariable c.node x
-    output_variable c x i = names_second x _ _ (names_first x _ _ i)
-
     argument_places :
         (here : Instance) (k : Clock) (n : ℕ) (f : Name) (statics : List Static) (es : Exprs)
         (c : Instance) → IsCallOf P here k n f statics es c → (x : Name) (g : Name × Name) →
         found_in (given_inputs c.node.inputs es) x ≡ Some g → IsVariable here.node g.1 →
         columns X F ((layout P).places c.path x) ≡ columns X F ((layout P).places here.path g.1)
     argument_places here k n f statics es c call x g found variable =
-        same c call.callee_stands x (parameter_variable c x (input_named _ es x g found))
+        same c call.callee_stands x (names_first x c.node.inputs (c.node.outputs ++ c.node.locals)
+        (input_named _ es x g found))
         ∙ of_argument here k n f _ es c call x g found variable ∙ sym
         (same here call.stands g.1 variable)
 
@@ -294,7 +287,8 @@ module _ (P : Program) (accepted : static_refusal P ≡ None) (checked : check_r
         let left = output_value _ lefts x g found in
         let variable = left_variable P accepted checked here call.stands _ g.1 (zip_first
         here.node.body _ (Equation lefts r.right, r.occurrence) r.stands) left in
-        same c call.callee_stands x (output_variable c x (output_named _ lefts x g found))
+        same c call.callee_stands x (names_second x _ _ (names_first x _ _ (output_named _ lefts x g
+        found)))
         ∙ of_result here k n f _ es c call lefts r x g found ∙ sym
         (same here call.stands g.1 variable)
 
@@ -306,7 +300,8 @@ module _ (P : Program) (accepted : static_refusal P ≡ None) (checked : check_r
       where
         by : (o : Option (ℕ × Instance)) → found_from P 0 (instances P) p ≡ o →
             columns X F ((layout P).places p x) ≡ columns X F ((layout P).signs p x)
-        by None e = cc (places_nowhere P p x e, signs_nowhere P p x e)
+        by None e =
+            cc (places_nowhere P p x e, signs_nowhere P p x e)
         by (Some s) e =
             let c = found_some P 0 (instances P) p s.0 s.1 e in
             ap (λ q. columns X F ((layout P).places q x)) (sym c.1)
@@ -372,8 +367,7 @@ module _ (P : Program) (accepted : static_refusal P ≡ None) (checked : check_r
         (iterator_inputs (λ j y. H.columns (Child here.path n j) y) count it c.node.outputs
         (all_streams P H here k (n + 1) es) i)) 0 count index each_joined lower).0
     joined_runs here k n index (Iterate it (Symbol op) m es) s count c is counts lower gives
-        joined =
-        none_is s is
+        joined = none_is s is
     joined_runs here k n index _ s count c is counts lower gives joined = none_is s is
 
     -- each instance runs on its flat clock
@@ -456,11 +450,6 @@ module _ (P : Program) (accepted : static_refusal P ≡ None) (checked : check_r
       abbrev IsCounted : Declaration → Type 0
       IsCounted d = length (Y.places c.path d.name) ≡ width P c d
 
-      input_counts : Every IsCounted c.node.inputs
-      input_counts =
-          Every-first IsCounted c.node.inputs (c.node.outputs ++ c.node.locals)
-          (places_width P accepted c c_stands)
-
       output_counts : Every IsCounted c.node.outputs
       output_counts =
           Every-first IsCounted c.node.outputs c.node.locals
@@ -473,7 +462,8 @@ module _ (P : Program) (accepted : static_refusal P ≡ None) (checked : check_r
           IsArgument Y P here c cs c.node.inputs x v y →
           columns X F (Y.places c.path x) ≡ columns X F (Y.places here.path y)
       argument_same x y v is h =
-          let wide = Every-at IsCounted c.node.inputs h.input input_counts h.among in
+          let wide = Every-at IsCounted c.node.inputs h.input (Every-first IsCounted c.node.inputs
+          (c.node.outputs ++ c.node.locals) (places_width P accepted c c_stands)) h.among in
           let count : length (Y.places c.path x) ≡ length (Y.places here.path y) =
           ap (λ z. length (Y.places c.path z)) (sym h.name) ∙ wide ∙ h.wide
           ∙ sym (own_count v y is) in

@@ -1,26 +1,27 @@
 -- The copies that an instance emits for its calls.
 use Rattle.lb_expand.proofs.Words
-use Words.{heads_same, ℕ, ◌+◌, List, [], ◌∷◌, ◌++◌, flat_map, zip, subst, Every, In, Node_named}
-use Words.{Symbol, Expr, Literal, Truth, Variable, Group, Unary, Binary, If, Arrow, Fby, Pre}
-use Words.{Current, When, Replicate, Index, Slice, Join, Array, AtMostOne, Nor, Call, Iterate}
-use Words.{Exprs, Nil, Cons, Statement, Equation, Assertion, Program, Instance, Child, node_named}
-use Words.{On, Occurrence, call_count, call_clocks, occurrences, occurrences_in, occurrences_each}
-use Words.{statement_clock, right_sides, statements, node_occurrences, number, outputs_of}
-use Words.{Every-append, Every-first, Every-second, Operation, FlatEquation, Layout, flat_clock}
-use Words.{State, Emitted, add, keep, assert, joins, targets, copied, call_copies, iterator_copies}
-use Words.{emit, emit_all, emit_each, emit_body, emit_instances, ◌≡◌, inl, inr, Bool, true, false}
-use Words.{cond, Option, Some, None, length, map, refl, sym, ap, ◌∙◌, bytes_eq, bytes_eq-Decides}
-use Words.{same_Some, all_some, listed, Name, Static, Declaration, DataType, is_type, are_types}
-use Words.{variables, variable_type, width, named, type_of_name, data_types, all_types, singly}
-use Words.{found_in, bound, first_of_all, found_name, received, as_variable, given_outputs}
-use Words.{ungrouped}
+use Words.{Array, Arrow, Assertion, AtMostOne, Binary, Bool, Call, Child, Cons, Current, DataType}
+use Words.{Declaration, Emitted, Equation, Every, Every-append, Every-first, Every-second, Expr}
+use Words.{Exprs, Fby, FlatEquation, Group, If, In, Index, Instance, Iterate, Join, Layout, List}
+use Words.{Literal, Name, Nil, Node_named, None, Nor, Occurrence, On, Operation, Option, Pre}
+use Words.{Program, Replicate, Slice, Some, State, Statement, Static, Symbol, Truth, Unary}
+use Words.{Variable, When, [], add, all_some, all_types, ap, are_types, as_variable, assert, bound}
+use Words.{bytes_eq, bytes_eq-Decides, call_clocks, call_copies, call_count, cond, copied}
+use Words.{data_types, emit, emit_all, emit_body, emit_each, emit_instances, false, first_of_all}
+use Words.{flat_clock, flat_map, found_in, found_name, given_outputs, heads_same, inl, inr, is_type}
+use Words.{iterator_copies, joins, keep, length, listed, map, named, node_named, node_occurrences}
+use Words.{number, occurrences, occurrences_each, occurrences_in, outputs_of, received, refl}
+use Words.{right_sides, same_Some, singly, statement_clock, statements, subst, sym, targets, true}
+use Words.{type_of_name, ungrouped, variable_type, variables, width, zip, ℕ, ◌++◌, ◌+◌, ◌∙◌, ◌∷◌}
+use Words.{◌≡◌}
 use Rattle.lb_check.specs.Clocks.{Clock, given_inputs}
-use Rattle.lb_expand.proofs.emission.EmissionSteps.{add_copies, keep_copies, nor_copies}
-use Rattle.lb_expand.proofs.emission.EmissionSteps.{at_most_one_copies, symbol_copies, name_copies}
+use Rattle.lb_expand.proofs.emission.EmissionSteps.{Copies, add_copies, at_most_one_copies, copying}
+use Rattle.lb_expand.proofs.emission.EmissionSteps.{keep_copies, name_step, nor_copies}
+use Rattle.lb_expand.proofs.emission.EmissionSteps.{symbol_copies}
 use Rattle.lb_expand.proofs.numbering.ReceivedInputs.{copied_append, target_count}
-use Rattle.lb_expand.proofs.solutions.Emission.{joins_copies}
-use Rattle.lb_expand.proofs.solutions.Solving.{occurrences_of, assert_copies}
-use Rattle.lb_expand.proofs.widths.TypeFacts.{each, width_of, same_count, types_first}
+use Rattle.lb_expand.proofs.solutions.{Emission.joins_copies, Solving.assert_copies}
+use Rattle.lb_expand.proofs.{solutions.Solving.occurrences_of, widths.TypeFacts.{each, same_count}}
+use Rattle.lb_expand.proofs.widths.TypeFacts.{types_first, width_of}
 
 -- The copies that an instance emits: for each call in its text, copies into the inputs of its
 -- callee, and for each equation, copies into its left variables.
@@ -110,7 +111,7 @@ module _ (Y : Layout) (P : Program) (cs : List FlatEquation) where
       copies_there k n s (Literal m) h = next tt (nothing (before_add k s _ h))
       copies_there k n s (Truth b) h = next tt (nothing (before_add k s _ h))
       copies_there k n s (Variable x) h =
-          next tt (nothing (subst Within (name_copies Y P here k s x _) h))
+          next tt (nothing (subst Within (name_step Copies copying Y P here k s x _) h))
       copies_there k n s (Group a) h = copies_there k n s a h
       copies_there k n s (Unary op a) h = next tt (copies_there k n s a (before_add k _ _ h))
       copies_there k n s (Binary op a b) h =
@@ -287,16 +288,6 @@ module _ (Y : Layout) (P : Program) (here : Instance) where
   singled None t e = absurd cc
   singled (Some u) t e = ap Some (heads_same u t [] [] (same_Some (u ∷ []) (t ∷ []) e))
 
-  -- a variable given for an input has as many elements as the input
-  argument_width :
-      (c : Instance) (d : Declaration) (e : Expr) (x : Name) (v : Declaration) (t u : DataType) →
-      variable_type P c d ≡ Some t → data_types P here e ≡ Some (u ∷ []) →
-      is_type t u ≡ true → as_variable e ≡ Some x →
-      named (λ d. d.name) x (variables here.node) ≡ Some v → width P c d ≡ width P here v
-  argument_width c d e x v t u is_t is_u same var found =
-      let of_v = singled (variable_type P here v) u (sym (variable_types e x v var found) ∙ is_u) in
-      width_of P c d t is_t ∙ same_count t u same ∙ sym (width_of P here v u of_v)
-
   -- ## Arguments
 
   module _ (c : Instance) (cs : List FlatEquation) where
@@ -343,7 +334,9 @@ module _ (Y : Layout) (P : Program) (here : Instance) where
               input = d;
               among = inl refl;
               name = name;
-              wide = argument_width c d a g.1 v t u is_t is_u same own is;
+              wide = let of_v = singled (variable_type P here v) u (sym (variable_types a g.1 v own
+                  is) ∙ is_u) in width_of P c d t is_t ∙ same_count t u same
+                  ∙ sym (width_of P here v u of_v);
               copies = rw (← name)
                   (subst (λ fs. Within Y P cs (copied (targets Y c.node c.path d.name) fs))
                   (emit_variable k n s a g.1 v own is) first);

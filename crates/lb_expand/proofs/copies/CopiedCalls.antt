@@ -1,40 +1,38 @@
 -- The copies that an expression emits match the definitions of the inputs of its callees.
 use Rattle.lb_expand.proofs.Words
-use Words.{heads_same, tails_same, ◌≡◌, inl, inr, ℕ, zero, suc, ◌*◌, ◌/◌, ◌<◌, List, [], ◌∷◌, ◌++◌}
-use Words.{map, length, take, drop, flat_map, refl, sym, ap, ◌∙◌, subst, arith, ArrayIterator, Map}
-use Words.{Red, Fill, Every, In, part, joined, Name, Declaration, Node, Program, Instance, Path}
-use Words.{Stream, declared_clock, Element, Definition, elements, defined_as, accumulated}
-use Words.{iterator_inputs, History, Every-at, Every-from, FlatClock, Copy, FlatEquation, Layout}
-use Words.{flat_clock, Target, targets, copied, received, ◌+◌, ◌≤◌, Option, Some, None}
-use Words.{range_with_len, append-nil, append_assoc, flat_map-append, listed, Static, Node_named}
-use Words.{Symbol, Expr, Literal, Truth, Variable, Group, Unary, Binary, If, Arrow, Fby, Pre}
-use Words.{Current, When, Replicate, Index, Slice, Join, Array, AtMostOne, Nor, Call, Iterate}
-use Words.{Exprs, Nil, Cons, named, Child, call_site, callee_of, static_count, node_named, DataType}
-use Words.{variables, all_types, operator_types, itself, needs, all_needs, output_elements}
-use Words.{call_definitions, Occurrence, at, call_count, call_clocks, occurrences, occurrences_in}
-use Words.{occurrences_each, number, all_streams, argument_streams, first_of_all, Operation, State}
-use Words.{Emitted, call_copies, iterator_copies, add, keep, emit_name, emit, emit_all, emit_each}
-use Words.{Given, base_clock, outer}
+use Words.{Array, ArrayIterator, Arrow, AtMostOne, Binary, Call, Child, Cons, Copy, Current}
+use Words.{DataType, Declaration, Definition, Element, Emitted, Every, Every-at, Every-from, Expr}
+use Words.{Exprs, Fby, Fill, FlatClock, FlatEquation, Given, Group, History, If, In, Index}
+use Words.{Instance, Iterate, Join, Layout, List, Literal, Map, Name, Nil, Node, Node_named, None}
+use Words.{Nor, Occurrence, Operation, Option, Path, Pre, Program, Red, Replicate, Slice, Some}
+use Words.{State, Static, Stream, Symbol, Truth, Unary, Variable, When, [], accumulated, add}
+use Words.{all_needs, all_streams, all_types, ap, append-nil, append_assoc, argument_streams, arith}
+use Words.{at, base_clock, call_clocks, call_copies, call_count, call_definitions, call_site}
+use Words.{callee_of, copied, declared_clock, defined_as, drop, elements, emit, emit_all, emit_each}
+use Words.{emit_name, first_of_all, flat_clock, flat_map, flat_map-append, heads_same, in_either}
+use Words.{in_first, in_second, inl, inr, iterator_copies, iterator_inputs, itself, joined, keep}
+use Words.{length, listed, map, named, needs, node_named, number, occurrences, occurrences_each}
+use Words.{occurrences_in, operator_types, outer, output_elements, part, range_with_len, received}
+use Words.{refl, static_count, subst, suc, sym, tails_same, take, targets, variables, zero, ℕ, ◌*◌}
+use Words.{◌++◌, ◌+◌, ◌/◌, ◌<◌, ◌∙◌, ◌∷◌, ◌≡◌, ◌≤◌, ◌⊎◌}
 use Rattle.lb_check.specs.{Clocks.{Clock, given_inputs}, Needs.input_definitions}
-use Rattle.lb_flat.proofs.lists.Lists.{Every-of_range, Every-map, Every-append, Every-first}
-use Rattle.lb_flat.proofs.lists.Lists.{Every-second}
-use Rattle.lb_expand.proofs.copies.GivenCalls.{clocks_enough}
-use Rattle.lb_expand.proofs.emission.EmissionSteps.{IsAdding, nor_step, at_most_one_step}
-use Rattle.lb_expand.proofs.emission.EmissionSteps.{symbol_step, add_copies, keep_copies}
-use Rattle.lb_expand.proofs.emission.EmissionSteps.{nor_copies, at_most_one_copies, symbol_copies}
-use Rattle.lb_expand.proofs.lists.Lists.{SomeOf, some_first, some_second, some_of_in}
-use Rattle.lb_expand.proofs.reads.LinkSymbols.{keep_equations}
-use Rattle.lb_expand.proofs.reads.LinkTerms.{AreNumbered, IsKnown, outputs_numbered, linked}
-use Rattle.lb_expand.proofs.reads.LinkTerms.{all_linked, earlier, term_before, all_before}
-use Rattle.lb_expand.proofs.reads.LinkTerms.{each_before}
-use Rattle.lb_expand.proofs.reads.LinkWords.{pairs-pieces, Pairs, pairs-append, pairs-take}
-use Rattle.lb_expand.proofs.reads.LinkWords.{pairs-drop, pairs-count, AreLinks, Link, AllMeet}
-use Rattle.lb_expand.proofs.reads.LinkWords.{variable_links, added}
-use Rattle.lb_expand.proofs.solutions.{Emission.{joins_equations, joins_copies}, Placing.AreAsWide}
-use Rattle.lb_expand.proofs.widths.FoundWidths.{length-inputs, as_many, all_as_many}
+use Rattle.lb_expand.proofs.{copies.GivenCalls.clocks_enough, emission.EmissionSteps.IsAdding}
+use Rattle.lb_expand.proofs.emission.EmissionSteps.{add_copies, at_most_one_copies}
+use Rattle.lb_expand.proofs.emission.EmissionSteps.{at_most_one_step, keep_copies, nor_copies}
+use Rattle.lb_expand.proofs.emission.EmissionSteps.{nor_step, symbol_copies, symbol_step}
+use Rattle.lb_expand.proofs.lists.Lists.{SomeOf, some_first, some_of_in, some_second}
+use Rattle.lb_expand.proofs.reads.{LinkSymbols.keep_equations, LinkTerms.AreNumbered}
+use Rattle.lb_expand.proofs.reads.LinkTerms.{IsKnown, all_before, all_linked, each_before, earlier}
+use Rattle.lb_expand.proofs.reads.LinkTerms.{linked, outputs_numbered, term_before}
+use Rattle.lb_expand.proofs.reads.LinkWords.{AllMeet, AreLinks, Link, Pairs, added, pairs-append}
+use Rattle.lb_expand.proofs.reads.LinkWords.{pairs-count, pairs-drop, pairs-pieces, pairs-take}
+use Rattle.lb_expand.proofs.{reads.LinkWords.variable_links, solutions.Emission.joins_copies}
+use Rattle.lb_expand.proofs.solutions.{Emission.joins_equations, Placing.AreAsWide}
+use Rattle.lb_expand.proofs.widths.FoundWidths.{all_as_many, as_many, length-inputs}
 use Rattle.lb_expand.proofs.widths.{PlacedCalls.{call_as_wide, iterator_as_wide}, TypeFacts.bound}
-use Rattle.lb_expand.proofs.widths.Widths.{called, placed, AreVariablesWide, IsOccurrenceWide}
-use Rattle.lb_expand.proofs.widths.Widths.{IsTypedAt}
+use Rattle.lb_expand.proofs.widths.Widths.{AreVariablesWide, IsOccurrenceWide, IsTypedAt, called}
+use Rattle.{lb_expand.proofs.widths.Widths.placed, lb_flat.proofs.lists.Lists.Every-append}
+use Rattle.lb_flat.proofs.lists.Lists.{Every-first, Every-map, Every-of_range, Every-second}
 
 -- The copies that an expression emits match the definitions of the inputs of its callees: each copy
 -- is such a definition, and each definition has its copy.
@@ -71,21 +69,6 @@ module _ {A B : Type 0} (R : A → B → Type 0) where
         (Every-map _ _ (λ y s. some_second (λ x. R x y) xs us s) vs g.second);
   }
 
-  -- if `xs` matches `ys` and `us` matches `vs`, then `xs ++ us` matches `vs ++ ys`
-  pub matched-crossed :
-      (xs us : List A) (ys vs : List B) → AreMatched xs ys → AreMatched us vs →
-      AreMatched (xs ++ us) (vs ++ ys)
-  matched-crossed xs us ys vs h g = record {
-    first =
-        Every-append _ xs us
-        (Every-map _ _ (λ x s. some_second (R x) vs ys s) xs h.first)
-        (Every-map _ _ (λ x s. some_first (R x) vs ys s) us g.first);
-    second =
-        Every-append _ vs ys
-        (Every-map _ _ (λ y s. some_second (λ x. R x y) xs us s) vs g.second)
-        (Every-map _ _ (λ y s. some_first (λ x. R x y) xs us s) ys h.second);
-  }
-
   -- a list matches `ys'` if it matches `ys`, and both have the same items
   pub matched-moved :
       (xs : List A) (ys ys' : List B) → AreMatched xs ys → ((y : B) → In y ys → In y ys') →
@@ -95,6 +78,18 @@ module _ {A B : Type 0} (R : A → B → Type 0) where
     second =
         Every-from _ ys' (λ y i. Every-at (λ y. SomeOf (λ x. R x y) xs) ys y h.second (back y i));
   }
+
+  -- if `xs` matches `ys` and `us` matches `vs`, then `xs ++ us` matches `vs ++ ys`
+  pub matched-crossed :
+      (xs us : List A) (ys vs : List B) → AreMatched xs ys → AreMatched us vs →
+      AreMatched (xs ++ us) (vs ++ ys)
+  matched-crossed xs us ys vs h g =
+      matched-moved (xs ++ us) (ys ++ vs) (vs ++ ys) (matched-append xs us ys vs h g)
+      (λ y i. crossed y ys vs (in_either y ys vs i)) (λ y i. crossed y vs ys (in_either y vs ys i))
+    where
+      crossed : (y : B) (ys vs : List B) → In y ys ⊎ In y vs → In y (vs ++ ys)
+      crossed y ys vs (inl i) = in_second y vs ys i
+      crossed y ys vs (inr i) = in_first y vs ys i
 
   pub matched-pairs : (xs : List A) (ys : List B) → Pairs R xs ys → AreMatched xs ys
   matched-pairs [] [] h = matched-none
@@ -131,15 +126,13 @@ module _ (Y : Layout) (P : Program) (H : History)
   AreDeclared c ds =
       Every (λ d. Pairs (λ i y. IsAt y i) (Y.places c.path d.name) (elements P c d)) ds
 
-  abbrev target_at : FlatClock → ℕ → Target
-  target_at k i = record { place = i; clock = k }
-
   -- the copies into the elements of one variable match their definitions
   pub variable_paired :
       (k : FlatClock) (is : List ℕ) (ys : List Element) (js : List ℕ)
       (yss : List (List Element)) → Pairs (λ i y. IsAt y i) is ys →
       AreLinks IsAt Under Left k js yss →
-      Pairs IsDefinedBy (copied (map (target_at k) is) js) (defined_as ys yss)
+      Pairs IsDefinedBy (copied (map (λ i. record { place = i; clock = k }) is) js)
+      (defined_as ys yss)
   variable_paired k [] [] js yss h l = tt
   variable_paired k (i ∷ is) (y ∷ ys) [] [] h l = tt
   variable_paired k (i ∷ is) (y ∷ ys) (j ∷ js) (zs ∷ yss) h l = (

@@ -1,18 +1,18 @@
 -- The equations of an expansion give elements of the program: copies give the elements of
 -- variables, and the other equations give the elements after them.
 use Rattle.lb_expand.proofs.Words
-use Words.{◌≡◌, ℕ, suc, ◌+◌, ◌<◌, Option, Some, None, List, [], ◌∷◌, ◌++◌, map, length}
-use Words.{flat_map, sym, subst, arith, range_with_len, ArrayIterator, Every, Name, Declaration}
-use Words.{Node, Program, Instance, Path, Root, Observer, Child, instance_at, instances}
-use Words.{declared_clock, iterator_inputs, FlatEquation, Layout, flat_clock, State, Target, joins}
-use Words.{copied, targets, received, call_copies, iterator_copies, emit_instances, from_inputs}
-use Words.{given_inputs, observed, observed_places, before_instances, expanded}
-use Rattle.lb_flat.proofs.lists.Lists.{Every-map, Every-append}
-use Rattle.lb_expand.{specs.Emit.input_targets, proofs.emission.EmissionSteps.add_copies}
-use Rattle.lb_expand.proofs.emission.EmissionSteps.{keep_copies, IsStep, AreJoined, instances_step}
-use Rattle.lb_expand.proofs.{lists.Lists.Every-pieces, solutions.Closing.{Below}}
-use Rattle.lb_expand.proofs.solutions.{Emission.joins_copies, Filling.Fresh, Solving.IsLaidOut}
-use Rattle.lb_expand.proofs.solutions.Solving.{assert_copies, start_closed}
+use Words.{ArrayIterator, Child, Declaration, Every, FlatEquation, Instance, Layout, List, Name}
+use Words.{Node, None, Observer, Option, Path, Program, Root, Some, State, Target, [], arith}
+use Words.{before_instances, call_copies, copied, declared_clock, emit_instances, expanded}
+use Words.{flat_clock, flat_map, from_inputs, given_inputs, instance_at, instances, iterator_copies}
+use Words.{iterator_inputs, length, map, observed, observed_places, range_with_len, received, subst}
+use Words.{suc, sym, targets, ℕ, ◌++◌, ◌+◌, ◌<◌, ◌∷◌, ◌≡◌}
+use Rattle.lb_expand.proofs.emission.EmissionSteps.{AreJoined, IsStep, add_copies, instances_step}
+use Rattle.lb_expand.proofs.{emission.EmissionSteps.keep_copies, lists.Lists.Every-pieces}
+use Rattle.lb_expand.proofs.solutions.{Closing.Below, Emission.joins_copies, Filling.Fresh}
+use Rattle.lb_expand.proofs.solutions.Solving.{IsLaidOut, assert_copies, start_closed}
+use Rattle.{lb_expand.specs.Emit.input_targets, lb_flat.proofs.lists.Lists.Every-append}
+use Rattle.lb_flat.proofs.lists.Lists.{Every-map}
 
 -- ## Copies
 
@@ -35,8 +35,7 @@ module _ (V : ℕ) (Y : Layout) (P : Program)
       by [] h = tt
       by (i ∷ is) h = (h.0, by is h.1)
 
-  copied_below : (ts : List Target) (js : List ℕ) → Every Low ts →
-      AllBelow (copied ts js)
+  copied_below : (ts : List Target) (js : List ℕ) → Every Low ts → AllBelow (copied ts js)
   copied_below [] js h = tt
   copied_below (t ∷ ts) [] h = tt
   copied_below (t ∷ ts) (j ∷ js) h = (h.0, copied_below ts js h.1)
@@ -51,8 +50,7 @@ module _ (V : ℕ) (Y : Layout) (P : Program)
       (copied_below (targets Y callee p d.name) is (targets_below callee p d.name))
       (received_below callee p ds iss)
 
-  call_below : (p : Path) (o : Option Node) (iss : List (List ℕ)) →
-      AllBelow (call_copies Y p o iss)
+  call_below : (p : Path) (o : Option Node) (iss : List (List ℕ)) → AllBelow (call_copies Y p o iss)
   call_below p None iss = tt
   call_below p (Some callee) iss = received_below callee p callee.inputs iss
 
@@ -73,11 +71,6 @@ module _ (V : ℕ) (Y : Layout) (P : Program)
   on : (Q R : List FlatEquation) → R ≡ Q → AllBelow Q → AllBelow R
   on Q R e h = subst AllBelow (sym e) h
 
-  joins_below : (s : State) (qs : List FlatEquation) (is : List ℕ) → AllBelow qs →
-      AllBelow s.copies → AllBelow (joins s qs is).state.copies
-  joins_below s qs is new h =
-      on _ _ (joins_copies s qs is) (Every-append (λ q. q.element < V) s.copies qs h new)
-
   abbrev Lows : State → State → Type 0
   Lows s t = AllBelow s.copies → AllBelow t.copies
 
@@ -89,7 +82,8 @@ module _ (V : ℕ) (Y : Layout) (P : Program)
       adds = λ k s os h. on _ _ (add_copies k s os) h;
     };
     keeps = λ x h. on _ _ (keep_copies x) h;
-    joining = λ s qs is new h. joins_below s qs is new h;
+    joining = λ s qs is new h. on _ _ (joins_copies s qs is) (Every-append (λ q. q.element < V)
+        s.copies qs h new);
   }
 
   joined_below : AreJoined AllBelow Y
@@ -101,15 +95,9 @@ module _ (V : ℕ) (Y : Layout) (P : Program)
         (Every-pieces Low (targets Y here.node here.path) (targets_below here.node here.path) xs);
   }
 
-  instances_below : (s : State) (is : List Instance) → AllBelow s.copies →
-      AllBelow (emit_instances Y P s is).copies
-  instances_below =
-      instances_step AllBelow Lows lowering Y joined_below P (λ x h. on _ _ (assert_copies x) h)
-
   -- ## The trace and the observer
 
-  inputs_below : (j : ℕ) (ts : List Target) → Every Low ts →
-      AllBelow (from_inputs j ts)
+  inputs_below : (j : ℕ) (ts : List Target) → Every Low ts → AllBelow (from_inputs j ts)
   inputs_below j [] h = tt
   inputs_below j (t ∷ ts) h = (h.0, inputs_below (suc j) ts h.1)
 
@@ -154,5 +142,7 @@ expanded_within count Y P laid =
     (widen given (given_below count Y P laid.places _)) (Every-append (λ q. q.element < s.next)
     seen (s.copies ++ s.equations) (widen seen (observed_below count Y P laid.places _ _))
     (Every-append (λ q. q.element < s.next) s.copies s.equations (widen s.copies
-    (instances_below count Y P laid.places _ _ tt))
+    (instances_step (AllBelow count Y P laid.places) (Lows count Y P laid.places) (lowering count Y
+    P laid.places) Y (joined_below count Y P laid.places) P (λ x h. (on count Y P laid.places) _ _
+    (assert_copies x) h) _ _ tt))
     (rw closed.next (fresh_within count _ closed.fresh))))

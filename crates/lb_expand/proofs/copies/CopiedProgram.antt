@@ -123,20 +123,14 @@ module _ (P : Program) (accepted : static_refusal P ≡ None) (checked : check_r
   entered : Every (IsEntered P) (instances P)
   entered = all_entered P 0 (instances P) (instantiation_kept P accepted)
 
-  called_counted :
-      (here : Instance) → Every (λ i. Every (IsCounted here) (children P i)) (instances P)
-  called_counted here =
-      all_children P (IsCounted here)
-      (Every-both (λ c. level P c.path ≤ 64) (IsCounted here) (instances P)
-      (Every-map _ _ (λ c h. h.0) (instances P) entered) (counted here))
-
   sited :
       (here : Instance) → In here (instances P) →
       Every (λ o. IsSited here o.calls_before o.expr) (node_occurrences P here.node)
   sited here j =
       let sizes = Every-at (IsEntered P) (instances P) here entered j in
       let below = Every-at (λ i. Every (IsCounted here) (children P i)) (instances P) here
-      (called_counted here) j in
+      (all_children P (IsCounted here) (Every-both (λ c. level P c.path ≤ 64) (IsCounted here)
+      (instances P) (Every-map _ _ (λ c h. h.0) (instances P) entered) (counted here))) j in
       let called = all_called P (IsCounted here) here below sizes.1 in
       Every-map _ _
       (λ o stands s is. Every-at (OfCalled P here (IsCounted here))
@@ -193,9 +187,6 @@ module _ (P : Program) (accepted : static_refusal P ≡ None) (checked : check_r
 -- The copies of an accepted program whose rules hold, and what the observer receives, are the
 -- definitions of its variables by statements, calls and the observer.
 
-itself-append : (xs ys : List Element) → itself (xs ++ ys) ≡ itself xs ++ itself ys
-itself-append xs ys = map-append (λ x. x ∷ []) xs ys
-
 module _ (P : Program) (accepted : static_refusal P ≡ None) (checked : check_refusal P ≡ None)
     (observer_wide :
     IfSome (instance_at P Root) (λ root. IfSome (instance_at P Observer) (λ observer.
@@ -226,7 +217,11 @@ module _ (P : Program) (accepted : static_refusal P ≡ None) (checked : check_r
       joined (map (λ d. itself (elements P root d)) ds) ≡ itself (flat_map (elements P root) ds)
   each_itself root [] = refl
   each_itself root (d ∷ ds) =
-      cc (each_itself root ds, itself-append (elements P root d) (flat_map (elements P root) ds))
+      cc (
+        each_itself root ds,
+        map-append (λ x. x ∷ []) (elements P root d)
+            (flat_map (elements P root) ds),
+      )
 
   observed_fed :
       (root : Instance) (p : Path) (callee : Node) (cs ds : List Declaration) →

@@ -1,39 +1,38 @@
 -- Each element of the expansion of an accepted program has exactly one equation.
 use Rattle.lb_expand.proofs.Words
-use Words.{found_name, ◌≡◌, ℕ, zero, suc, ◌+◌, ◌≤◌, Option, Some, None, List, [], ◌∷◌, flat_map}
-use Words.{refl, sym, ap, ap₂, ◌∙◌, arith, Every, listed, Program, Instance, Root, Observer}
-use Words.{instance_at, children, instances, level, Every-map, Every-both, Every-first}
-use Words.{Every-second, path_is, ◌⊎◌, inl, inr, Bool, true, false, cond, nat_eq, ◌++◌, map, subst}
-use Words.{list_all, bytes_eq, sum_by-cons, bytes_eq-Decides, map-append, eqb-true, In, all_some}
-use Words.{Name, Declaration, Node, Statement, Equation, Assertion, and_first, and_second, named}
-use Words.{DataType, variables, are_distinct, among, left_names, variable_names, in_map, map_in}
-use Words.{any_in, type_of_name, is_statement_typed, data_types, in_either, Every-at, find_in}
-use Words.{bound, ◌<◌, IfSome, length, range_with_len, length-map, holds, unless, width, Path}
-use Words.{static_refusal, is_root, check_refusal, declared_clock, program_elements, columns_at}
-use Words.{History, is_typed, Every-from, second_none, kept, instantiation_kept, Every-all}
-use Words.{Every-append, variables_distinct, IsEntered, all_entered, statements_typed, FlatEquation}
-use Words.{column, history_of, IsGiven, Layout, flat_clock, layout, clock_reads, reads, keeps}
-use Words.{equation_reads, State, Target, targets, before_instances, emit_instances, from_inputs}
-use Words.{given_inputs, observed_places, observed, expanded, not, count_by}
-use Rattle.{lb_syntax.specs.Refusals.{E9, E10, E11}, lb_static.specs.Instances.instances_from}
-use Rattle.lb_check.specs.ClockRules.{is_clocked}
-use Rattle.lb_check.specs.DefinitionRules.{definition_count, defines_once, is_defined}
-use Rattle.lb_check.proofs.lists.Members.{Every-tested, Every-piece, flat_same}
-use Rattle.{lb_check.proofs.programs.SameHistories.deeper, lb_expand.specs.Emit.input_targets}
-use Rattle.lb_expand.proofs.copies.GivenCalls.{IsReady, in_names, in_instance, instances_added}
-use Rattle.lb_expand.proofs.copies.GivenCalls.{element_numbers, target_places, received_gives}
-use Rattle.lb_expand.proofs.copies.GivenCalls.{in_inputs, given_in, given-append}
-use Rattle.lb_expand.proofs.lists.Lists.{total, total-append, total-plus, total-same, total-pieces}
-use Rattle.lb_expand.proofs.lists.Lists.{is_name, named_in, in_named, map-pieces, total-map, times}
-use Rattle.lb_expand.proofs.lists.Lists.{times_of, of_times, once_apart, range_low, range_high}
-use Rattle.lb_expand.proofs.lists.Lists.{range_once, same_sums}
-use Rattle.lb_expand.proofs.numbering.NumberedPlaces.{columns_wide, places_walk, places_width}
-use Rattle.lb_expand.proofs.numbering.NumberedPlaces.{is_laid_out}
+use Words.{Assertion, Bool, DataType, Declaration, Equation, Every, Every-all, Every-append}
+use Words.{Every-at, Every-both, Every-first, Every-from, Every-map, Every-second, FlatEquation}
+use Words.{History, IfSome, In, Instance, IsEntered, IsGiven, Layout, List, Name, Node, None}
+use Words.{Observer, Option, Path, Program, Root, Some, State, Statement, Target, [], all_entered}
+use Words.{all_some, among, and_first, and_second, any_in, ap, ap₂, are_distinct, arith}
+use Words.{before_instances, bound, bytes_eq, bytes_eq-Decides, check_refusal, children}
+use Words.{clock_reads, column, columns_at, cond, count_by, data_types, declared_clock}
+use Words.{emit_instances, eqb-true, equation_reads, expanded, false, find_in, flat_clock, flat_map}
+use Words.{found_name, from_inputs, given_inputs, history_of, holds, in_either, in_map, inl, inr}
+use Words.{instance_at, instances, instantiation_kept, is_root, is_statement_typed, is_typed, keeps}
+use Words.{kept, layout, left_names, length, length-map, level, list_all, listed, map, map-append}
+use Words.{map_in, named, nat_eq, not, observed, observed_places, path_is, program_elements}
+use Words.{range_with_len, reads, refl, second_none, statements_typed, static_refusal, subst, suc}
+use Words.{sum_by-cons, sym, targets, true, type_of_name, unless, variable_names, variables}
+use Words.{variables_distinct, width, zero, ℕ, ◌++◌, ◌+◌, ◌<◌, ◌∙◌, ◌∷◌, ◌≡◌, ◌≤◌, ◌⊎◌}
+use Rattle.lb_check.proofs.lists.Members.{Every-piece, Every-tested, flat_same}
+use Rattle.lb_check.proofs.programs.{AcceptedElements.numbers_walk, SameHistories.deeper}
+use Rattle.lb_check.specs.{ClockRules.is_clocked, DefinitionRules.{defines_once, definition_count}}
+use Rattle.{lb_check.specs.DefinitionRules.is_defined, lb_expand.proofs.copies.GivenCalls.IsReady}
+use Rattle.lb_expand.proofs.copies.GivenCalls.{element_numbers, given-append, given_in, in_inputs}
+use Rattle.lb_expand.proofs.copies.GivenCalls.{in_instance, in_names, instances_added}
+use Rattle.lb_expand.proofs.copies.GivenCalls.{received_gives, target_places}
+use Rattle.lb_expand.proofs.lists.Lists.{in_named, is_name, map-pieces, named_in, of_times}
+use Rattle.lb_expand.proofs.lists.Lists.{once_apart, range_high, range_low, range_once, same_sums}
+use Rattle.lb_expand.proofs.lists.Lists.{times, times_of, total, total-append, total-map}
+use Rattle.lb_expand.proofs.lists.Lists.{total-pieces, total-plus, total-same}
+use Rattle.lb_expand.proofs.numbering.NumberedPlaces.{columns_wide, is_laid_out, places_width}
 use Rattle.lb_expand.proofs.solutions.{Closing.Closed, Filling.Fresh, Placing.AreAsWide}
 use Rattle.lb_expand.proofs.solutions.{Solving.start_closed, Watching.all_places}
-use Rattle.lb_expand.proofs.widths.{TypeFacts.{both_there, each}, PlacedCalls.body_wide}
-use Rattle.lb_expand.proofs.widths.PropertyOutput.{rooted}
-use Rattle.lb_expand.proofs.widths.SoundInstances.{occurrences_at, calls_wide}
+use Rattle.lb_expand.proofs.widths.{PlacedCalls.body_wide, PropertyOutput.rooted}
+use Rattle.lb_expand.proofs.widths.SoundInstances.{calls_wide, occurrences_at}
+use Rattle.lb_expand.{proofs.widths.TypeFacts.{both_there, each}, specs.Emit.input_targets}
+use Rattle.{lb_static.specs.Instances.instances_from, lb_syntax.specs.Refusals.{E10, E11, E9}}
 
 -- Every instance is a start or is called by exactly one instance. So the sum over all instances is
 -- the sum over the starts, plus the sum over the instances that each instance calls.
@@ -86,14 +85,6 @@ module _ (P : Program) where
         ap (λ m. f here + m)
         (deeper_sums n (children P here) (Every-all _ (from_sum n) (children P here)))
 
-    full_sum :
-        (n : ℕ) (here : Instance) → level P here.path + n ≡ 65 →
-        Every Low (instances_from P (suc n) here) →
-        total f (instances_from P (suc n) here)
-        ≡ f here + total of_children (instances_from P (suc n) here)
-    full_sum n here e h =
-        from_sum n here ∙ ap (λ cs. f here + total of_children cs) (sym (enough n here e h))
-
     regrouped : (a b : ℕ) → a + b ≡ (a + 0) + b
     regrouped a b = omega arith
 
@@ -107,7 +98,8 @@ module _ (P : Program) where
         ≡ total f (listed (λ c. c ∷ []) o) + total of_children (listed (instances_from P 65) o)
     start_sum None top h = refl
     start_sum (Some c) top h =
-        full_sum 64 c (deep (top c refl)) h
+        (from_sum 64 c ∙ ap (λ cs. f c + total of_children cs) (sym (enough 64 c (deep (top c refl))
+        h)))
         ∙ regrouped (f c) (total of_children (instances_from P 65 c))
       where
         deep : level P c.path ≡ 1 → level P c.path + 64 ≡ 65
@@ -158,8 +150,7 @@ not_both true p q = absurd cc
 not_both false p q = absurd cc
 
 -- a name stands at most once in a list of distinct names
-distinct_once :
-    (x : Name) (ys : List Name) → are_distinct ys ≡ true → total (is_name x) ys ≤ 1
+distinct_once : (x : Name) (ys : List Name) → are_distinct ys ≡ true → total (is_name x) ys ≤ 1
 distinct_once x [] e = omega arith
 distinct_once x (y ∷ ys) e = by (bytes_eq x y) refl (distinct_once x ys (and_second _ _ e))
   where
@@ -280,8 +271,7 @@ fresh_numbers n (q ∷ qs) h =
 abbrev ReadsLower : ℕ → FlatEquation → Type 0
 ReadsLower V q = V ≤ q.element → Every (λ i. i < q.element) (equation_reads q)
 
-fresh_lower :
-    (V n : ℕ) (qs : List FlatEquation) → Fresh n qs → Every (ReadsLower V) qs
+fresh_lower : (V n : ℕ) (qs : List FlatEquation) → Fresh n qs → Every (ReadsLower V) qs
 fresh_lower V n [] h = tt
 fresh_lower V n (q ∷ qs) h = (
   λ le.
@@ -529,7 +519,7 @@ module _ (P : Program) (accepted : static_refusal P ≡ None) (checked : check_r
       (observer_given i (instance_at P Root) (instance_at P Observer) refl
       (rooted P accepted) observer_wide)
       copied)
-      ∙ (sym (places_are i) ∙ ap (times i) (places_walk P accepted))
+      ∙ (sym (places_are i) ∙ ap (times i) (numbers_walk P accepted))
 
   closed : Closed count final
   closed = start_closed count Y P (is_laid_out P accepted)
@@ -560,9 +550,6 @@ module _ (P : Program) (accepted : static_refusal P ≡ None) (checked : check_r
   at_most_once : (i : ℕ) → times i (element_numbers Q) ≤ 1
   at_most_once i = (once_each i count furthers _ (equations_are i)).most
 
-  at_least_once : (i : ℕ) → i < count + furthers → 1 ≤ times i (element_numbers Q)
-  at_least_once i lt = (once_each i count furthers _ (equations_are i)).least lt
-
   -- equations that give only first elements give no temporary, so `ReadsLower` holds of them
   of_first :
       (qs : List FlatEquation) → ((i : ℕ) → given_in i qs ≤ firsts i) → Every (ReadsLower count) qs
@@ -579,7 +566,8 @@ module _ (P : Program) (accepted : static_refusal P ≡ None) (checked : check_r
   pub given_whole : IsGiven (expanded (layout P) P (length (program_elements P)))
   given_whole = record {
     each = λ i lt.
-        of_times i (element_numbers Q) (at_least_once i (omega (arith, lt, closed.next)));
+        of_times i (element_numbers Q) ((once_each i count furthers _ (equations_are i)).least
+        (omega (arith, lt, closed.next)));
     once = once_apart (element_numbers Q) at_most_once;
     lower =
         Every-append (ReadsLower count) of_root (of_observer ++ (final.copies ++ final.equations))

@@ -1,15 +1,15 @@
 -- Relations of states that hold along each word of emission: what it keeps and what it adds.
 use Rattle.lb_expand.proofs.Words
-use Words.{ℕ, ◌+◌, false, Option, Some, None, List, [], ◌∷◌, flat_map, BinaryOperator, Or, And}
-use Words.{ArrayIterator, Map, Red, zip2, Name, Node_named, Symbol, Expr, Literal, Truth, Variable}
-use Words.{Group, Unary, Binary, If, Arrow, Fby, Pre, Current, When, Replicate, Index, Slice, Join}
-use Words.{Array, AtMostOne, Nor, Call, Iterate, Exprs, Nil, Cons, Declaration, Statement, Equation}
-use Words.{Assertion, Program, Instance, Path, Child, node_named, Boolean, call_count, call_clocks}
-use Words.{statement_clock, number, outputs_of, iterated, FlatClock, FlatEquation, Operation}
-use Words.{Constant, ApplyBinary, Layout, State, Emitted, add, keep, assert, joins, copied, targets}
-use Words.{push, chained, twice, emit_nor, emit_at_most_one, emit_symbol, emit_name, call_copies}
-use Words.{iterator_copies, emit, emit_all, emit_each, emit_body, emit_instances, ◌≡◌, refl, ◌∙◌}
-use Words.{◌++◌}
+use Words.{And, ApplyBinary, Array, ArrayIterator, Arrow, Assertion, AtMostOne, Binary}
+use Words.{BinaryOperator, Boolean, Call, Child, Cons, Constant, Current, Declaration, Emitted}
+use Words.{Equation, Expr, Exprs, Fby, FlatClock, FlatEquation, Group, If, Index, Instance, Iterate}
+use Words.{Join, Layout, List, Literal, Map, Name, Nil, Node_named, None, Nor, Operation, Option}
+use Words.{Or, Path, Pre, Program, Red, Replicate, Slice, Some, State, Statement, Symbol, Truth}
+use Words.{Unary, Variable, When, [], add, assert, call_clocks, call_copies, call_count, chained}
+use Words.{copied, emit, emit_all, emit_at_most_one, emit_body, emit_each, emit_instances}
+use Words.{emit_name, emit_nor, emit_symbol, false, flat_map, iterated, iterator_copies, joins}
+use Words.{keep, node_named, number, outputs_of, push, refl, statement_clock, targets, twice, zip2}
+use Words.{ℕ, ◌++◌, ◌+◌, ◌∙◌, ◌∷◌, ◌≡◌}
 use Rattle.lb_check.specs.Clocks.{Clock}
 
 -- If a relation of states holds along each word of emission, it holds between the states before and
@@ -113,8 +113,7 @@ module _ (Q : List FlatEquation → Type 0) (R : State → State → Type 0) (w 
     mutual
       unfolding emit
 
-      pub emit_step :
-          (k : Clock) (n : ℕ) (s : State) (e : Expr) → R s (emit Y P here k n s e).state
+      pub emit_step : (k : Clock) (n : ℕ) (s : State) (e : Expr) → R s (emit Y P here k n s e).state
       emit_step k n s (Literal m) = w.adding.adds _ s _
       emit_step k n s (Truth b) = w.adding.adds _ s _
       emit_step k n s (Variable x) = name_step R w.adding Y P here k s x _
@@ -136,13 +135,11 @@ module _ (Q : List FlatEquation → Type 0) (R : State → State → Type 0) (w 
       emit_step k n s (Replicate a m) = emit_step k n s a
       emit_step k n s (Index a i) = emit_step k n s a
       emit_step k n s (Slice a i j) = emit_step k n s a
-      emit_step k n s (Join a b) =
-          w.adding.both s _ _ (emit_step k n s a) (emit_step k _ _ b)
+      emit_step k n s (Join a b) = w.adding.both s _ _ (emit_step k n s a) (emit_step k _ _ b)
       emit_step k n s (Array es) = all_step k n s es
       emit_step k n s (AtMostOne es) =
           w.adding.both s _ _ (all_step k n s es) (at_most_one_step R w.adding _ _ _)
-      emit_step k n s (Nor es) =
-          w.adding.both s _ _ (all_step k n s es) (nor_step R w.adding _ _ _)
+      emit_step k n s (Nor es) = w.adding.both s _ _ (all_step k n s es) (nor_step R w.adding _ _ _)
       emit_step k n s (Call f statics es) =
           let ks = call_clocks k (node_named P f) es in
           let r = emit_each Y P here ks (n + 1) s es in
@@ -213,16 +210,11 @@ pub keep_copies : (x : Emitted) → (keep x).state.copies ≡ x.state.copies
 unfolding keep
 keep_copies x = refl
 
-abbrev Copies : State → State → Type 0
+abbrev pub Copies : State → State → Type 0
 Copies s t = t.copies ≡ s.copies
 
-copying : IsAdding Copies
+pub copying : IsAdding Copies
 copying = record { none = λ s. refl; both = λ s t u a b. b ∙ a; adds = add_copies }
-
-pub name_copies :
-    (Y : Layout) (P : Program) (here : Instance) (k : Clock) (s : State) (x : Name)
-    (d : Option Declaration) → (emit_name Y P here k s x d).state.copies ≡ s.copies
-name_copies = name_step Copies copying
 
 pub nor_copies : (k : FlatClock) (s : State) (is : List ℕ) →
     (emit_nor k s is).state.copies ≡ s.copies
@@ -238,15 +230,6 @@ pub symbol_copies :
 symbol_copies = symbol_step Copies copying
 
 -- Expressions leave the list of asserted elements as it was.
-
-add_asserted :
-    (k : FlatClock) (s : State) (os : List Operation) → (add k s os).state.asserted ≡ s.asserted
-unfolding add
-add_asserted k s os = refl
-
-keep_asserted : (x : Emitted) → (keep x).state.asserted ≡ x.state.asserted
-unfolding keep
-keep_asserted x = refl
 
 pub joins_asserted :
     (s : State) (qs : List FlatEquation) (is : List ℕ) →
@@ -266,10 +249,11 @@ abbrev Asserts : State → State → Type 0
 Asserts s t = t.asserted ≡ s.asserted
 
 asserting : IsStep Any Asserts
+unfolding add keep joins
 asserting = record {
-  adding = record { none = λ s. refl; both = λ s t u a b. b ∙ a; adds = add_asserted };
-  keeps = keep_asserted;
-  joining = λ s qs is q. joins_asserted s qs is;
+  adding = record { none = λ s. refl; both = λ s t u a b. b ∙ a; adds = λ k s os. refl };
+  keeps = λ x. refl;
+  joining = λ s qs is q. refl;
 }
 
 pub asserts :

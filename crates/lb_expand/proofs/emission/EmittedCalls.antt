@@ -1,22 +1,24 @@
 -- The words of the code that expand calls and the beginning of a flat program.
 use Rattle.lb_expand.proofs.Words
-use Words.{◌≡◌, ◌<◌, ◌≤◌, ℕ, zero, suc, ◌+◌, ◌*◌, ◌-◌, List, [], ◌∷◌, ◌++◌, length, take, drop}
-use Words.{get_or, min, arith, refl, sym, ap, ap₂, ◌∙◌, nat_le, range_with_len, nat_tests}
-use Words.{length-range_with_len, get_or-range_with_len, length-map-range_with_len}
-use Words.{get_or-map-range_with_len, ArrayIterator, Map, Red, Fill, Callee, State, Emitted, gives}
-use Words.{joins, Target, copied, Context, input_targets, part_copies, accumulator, index_copies}
-use Words.{gathered_at, index_outputs, call, iterate, FlatClock, FlatEquation, targets_of}
-use Words.{with_copies, onto, on_top, map, option_map, if◌then◌else◌, take-append_seam}
-use Words.{drop-append_seam, length-append, Reached, ResolvedNode, Table, Start, from_inputs}
-use Words.{variable_targets, parameter_targets, is_start, start_of, start_from, node_at, Bool, true}
-use Words.{false, flat_map, Option, Some, None, drop_more, drop_all, drop-drop, drop_min}
-use Words.{length-drop, length-map, append_assoc, append-nil, flat_map-append}
-use Rattle.std.proofs.lemmas.List.FromFn.{map-range_with_len_more}
-use Rattle.{lb_flat.proofs.lists.Lists.range_last, lb_expand.specs.EmitTerms.call_copies}
-use Rattle.lb_expand.specs.EmitTerms.{call_outputs, iterator_copies, iterator_outputs}
+use Words.{ArrayIterator, Bool, Callee, Context, ElementId, Emitted, Fill, FlatClock, FlatEquation}
+use Words.{List, Map, None, Option, Reached, Red, ResolvedNode, Some, Start, State, Table, Target}
+use Words.{[], accumulator, ap, append-nil, append_assoc, ap₂, arith, call, copied, drop}
+use Words.{drop-append_seam, drop-drop, drop_all, drop_min, drop_more, elements_of, false, flat_map}
+use Words.{flat_map-append, from_inputs, gathered_at, get_or, get_or-map-range_with_len}
+use Words.{get_or-range_with_len, gives, if◌then◌else◌, index_copies, index_outputs, input_targets}
+use Words.{is_start, iterate, joins, length, length-append, length-drop, length-map}
+use Words.{length-map-range_with_len, length-range_with_len, map, min, min-le_right, nat_le}
+use Words.{nat_tests, node_at, numbers_of, on_top, onto, option_map, parameter_targets, part_copies}
+use Words.{range_with_len, refl, start_from, start_of, suc, sym, take, take-append_seam, targets_of}
+use Words.{true, variable_targets, with_copies, zero, ℕ, ◌*◌, ◌++◌, ◌+◌, ◌-◌, ◌<◌, ◌∙◌, ◌∷◌, ◌≡◌}
+use Words.{◌≤◌}
+use Rattle.lb_expand.proofs.emission.EmittedStacks.{elements_push, equation_pushed, flat_pushed}
+use Rattle.lb_expand.proofs.emission.EmittedStacks.{numbers_many, numbers_push}
+use Rattle.lb_expand.specs.EmitTerms.{call_copies, call_outputs, iterator_copies, iterator_outputs}
 use Rattle.lb_expand.specs.{EmitWhole.input_of, Frames.copy_of}
-use Rattle.lb_expand.proofs.emission.EmittedStacks.{equation_pushed, flat_pushed, elements_push}
-use Rattle.lb_expand.proofs.emission.EmittedStacks.{numbers_push}
+use Rattle.lb_expand.specs.declared.expansion.frame.Elements.{Elements}
+use Rattle.lb_flat.proofs.lists.Lists.{range_last}
+use Rattle.std.proofs.lemmas.List.FromFn.{map-range_with_len_more}
 use Rattle.lb_static.specs.declared.table.Instance as row
 
 -- ## Numbers in order
@@ -27,6 +29,12 @@ range_rest a n i lt =
     let size = length-range_with_len a n in
     drop_more (range_with_len a n) i 0 (omega (arith, size, lt))
     ∙ ap (λ k. k ∷ drop (i + 1) (range_with_len a n)) (get_or-range_with_len a n i 0 lt)
+
+pub range_left : (n x : ℕ) → x < n →
+    drop x (range_with_len 0 n) ≡ x ∷ drop (x + 1) (range_with_len 0 n)
+range_left n x lt =
+    let zero_x : 0 + x ≡ x = omega arith in
+    range_rest 0 n x lt ∙ ap (λ y. y ∷ drop (x + 1) (range_with_len 0 n)) zero_x
 
 pub range_done : (a n i : ℕ) → n ≤ i → drop i (range_with_len a n) ≡ []
 range_done a n i le =
@@ -160,18 +168,34 @@ skipped at n all le =
 
 -- a loop of copies over the items of a list, one after the other
 module _ {A : Type 0} (f : A → List Target) where
+  -- after item `x`, whose targets are the `n` targets `ts`, the items `xs` are left
   pub items_step :
-      (s t whole : State) (x : A) (xs ys : List A) (n at to : ℕ) (all : List ℕ) → ys ≡ x ∷ xs →
-      length (f x) ≡ n → at ≤ length all →
-      with_copies s (copied (flat_map f ys) (drop at all)) ≡ whole →
-      t ≡ with_copies s (copied (f x) (drop at all)) → to ≡ at + min n (length all - at) →
-      with_copies t (copied (flat_map f xs) (drop to all)) ≡ whole
-  items_step s t whole x xs ys n at to all is count within h et place =
+      (s t whole : State) (x : A) (xs ys : List A) (ts : List Target) (n at to : ℕ)
+      (olds news : List ElementId) → ys ≡ x ∷ xs → ts ≡ f x → length (f x) ≡ n →
+      at ≤ length olds → news ≡ olds →
+      with_copies s (copied (flat_map f ys) (drop at (numbers_of olds))) ≡ whole →
+      t ≡ with_copies s (copied ts (drop at (numbers_of news))) →
+      to ≡ at + min n (length news - at) →
+      (with_copies t (copied (flat_map f xs) (drop to (numbers_of olds))) ≡ whole)
+      × (to ≤ length olds)
+  items_step s t whole x xs ys ts n at to olds news is targets count within same h et place =
+      let all = numbers_of olds in
+      let many = numbers_many olds in
+      let long = ap (λ (es : List ElementId). length es) same in
+      let most = min-le_right n (length news - at) in
+      let next : to ≡ at + min n (length all - at) =
+      place ∙ ap (λ m. at + min n (m - at)) (long ∙ sym many) in
       let one = copied (f x) (drop at all) in
-      let us = flat_map f xs in
-      let rest : drop to all ≡ drop (length (f x)) (drop at all) = cc (skipped at n all within) in
-      copying_more s t whole _ _ _ et (ap (λ (ys : List A). copied (flat_map f ys) (drop at all))
-      is ∙ copied_append _ _ _ ∙ ap (λ (is : List ℕ). one ++ copied us is) (sym rest)) h
+      let rest : drop to all ≡ drop (length (f x)) (drop at all) =
+      ap (λ m. drop m all) next ∙ skipped at n all (omega (arith, within, many))
+      ∙ ap (λ n. drop n (drop at all)) (sym count) in (
+        copying_more s t whole _ _ _
+            (et ∙ ap₂ (λ (ts : List Target) (es : List ElementId).
+            with_copies s (copied ts (drop at (numbers_of es)))) targets same)
+            (ap (λ (ys : List A). copied (flat_map f ys) (drop at all)) is ∙ copied_append _ _ _
+            ∙ ap (λ (is : List ℕ). one ++ copied (flat_map f xs) is) (sym rest)) h,
+        omega (arith, place, most, long, within),
+      )
 
   pub items_end :
       (s whole : State) (ys : List A) (js : List ℕ) → ys ≡ [] →
@@ -180,18 +204,8 @@ module _ {A : Type 0} (f : A → List Target) where
       copying_ends s whole _ (ap (λ (ys : List A). copied (flat_map f ys) js) is) h
 
 module _ (ctx : Context) (c : ℕ) where
-  -- copies into the elements of an input are copies into its targets
-  pub child_copied :
-      (s t : State) (i x first n : ℕ) (j k : FlatClock) (js : List ℕ) →
-      t ≡ with_copies s (copied (targets_of j (range_with_len first n)) js) →
-      range_with_len first n ≡ ctx.child c i x → j ≡ k → k ≡ ctx.input c i x →
-      t ≡ with_copies s (copied (input_targets ctx c i x) js)
-  child_copied s t i x first n j k js e is same clock =
-      e ∙ ap₂ (λ (k : FlatClock) (is : List ℕ). with_copies s (copied (targets_of k is) js))
-      (same ∙ clock) is
-
   -- an input has as many targets as elements
-  target_count : (i x : ℕ) → length (input_targets ctx c i x) ≡ length (ctx.child c i x)
+  pub target_count : (i x : ℕ) → length (input_targets ctx c i x) ≡ length (ctx.child c i x)
   target_count i x =
       length-map (ctx.child c i x) (λ p. record { place = p; clock = ctx.input c i x })
 
@@ -208,29 +222,6 @@ module _ (ctx : Context) (c : ℕ) where
       drop to all ≡ drop (length (input_targets ctx c i x)) (drop at all)
   skipped_one i x at to all within place =
       cc (skipped at (length (ctx.child c i x)) all within, target_count i x)
-
-  -- a step of the loop over the inputs of a call: after input x, those from x + 1 on are left
-  pub input_step :
-      (s t whole : State) (x inputs at to : ℕ) (all : List ℕ) → x < inputs → at ≤ length all →
-      with_copies s (copied (flat_map (input_targets ctx c 0) (drop x (range_with_len 0 inputs)))
-      (drop at all)) ≡ whole →
-      t ≡ with_copies s (copied (input_targets ctx c 0 x) (drop at all)) →
-      to ≡ at + min (length (ctx.child c 0 x)) (length all - at) →
-      with_copies t (copied (flat_map (input_targets ctx c 0)
-      (drop (x + 1) (range_with_len 0 inputs))) (drop to all)) ≡ whole
-  input_step s t whole x inputs at to all lt within h et place =
-      let zero_x : 0 + x ≡ x = omega arith in
-      items_step (input_targets ctx c 0) s t whole x _ _ _ at to all (range_rest 0 _ x lt ∙ ap
-      (λ y. y ∷ drop (x + 1) (range_with_len 0 inputs)) zero_x) (target_count 0 x) within h et
-      place
-
-  pub input_ends :
-      (s whole : State) (x inputs at : ℕ) (all : List ℕ) → inputs ≤ x →
-      with_copies s (copied (flat_map (input_targets ctx c 0) (drop x (range_with_len 0 inputs)))
-      (drop at all)) ≡ whole → s ≡ whole
-  input_ends s whole x inputs at all le h =
-      copying_ends s whole _ (ap (λ (is : List ℕ).
-      copied (flat_map (input_targets ctx c 0) is) (drop at all)) (range_done 0 inputs x le)) h
 
   -- a step of the loop over the inputs of an instance at an index that receive parts of arrays
   pub part_step :
@@ -259,11 +250,6 @@ module _ (ctx : Context) (c : ℕ) where
   part_ends s whole m i a len y at all le h =
       copying_ends s whole _ (ap (λ (is : List ℕ). part_copies ctx c m i is (drop at all))
       (range_done a len y le)) h
-
-  -- the accumulator of the first instance, and that of each instance after it
-  pub first_accumulator : (n : Callee) (i : ℕ) (is : List ℕ) → i ≡ 0 →
-      accumulator ctx c n i is ≡ is
-  first_accumulator n i is e = ap (λ i. accumulator ctx c n i is) e
 
   pub next_accumulator : (n : Callee) (i : ℕ) (is : List ℕ) → 0 < i →
       accumulator ctx c n i is ≡ ctx.child c (i - 1) n.inputs
@@ -376,12 +362,6 @@ index_step s t whole f i n lt h e =
     copying_more s t whole (f i) (flat_map f rest) (flat_map f (drop i (range_with_len 0 n))) e
     (ap (flat_map f) (range_rest 0 n i lt ∙ ap (λ i. i ∷ rest) zero_i)) h
 
-pub index_ends :
-    (s whole : State) (f : ℕ → List FlatEquation) (i n : ℕ) → n ≤ i →
-    with_copies s (flat_map f (drop i (range_with_len 0 n))) ≡ whole → s ≡ whole
-index_ends s whole f i n le h =
-    copying_ends s whole _ (ap (flat_map f) (range_done 0 n i le)) h
-
 pub ruleset puts = (elements_push, numbers_push)
 
 pub ruleset copies = (equation_pushed, flat_pushed)
@@ -434,6 +414,18 @@ module _ (ctx : Context) where
   start_target_count x =
       length-map (ctx.places x) (λ p. record { place = p; clock = ctx.declared x })
 
+  -- the targets of variable `x`, where the code has its elements and its clock
+  pub targets_read :
+      (x : ℕ) (places : Elements) (k : FlatClock) → elements_of places ≡ ctx.places x →
+      k ≡ ctx.declared x →
+      (targets_of k (elements_of places) ≡ variable_targets ctx x)
+      × (length (variable_targets ctx x) ≡ places.count)
+  targets_read x places k is clock = (
+    ap₂ targets_of clock is,
+    start_target_count x ∙ ap (λ (is : List ℕ). length is) (sym is)
+        ∙ length-range_with_len places.first places.count,
+  )
+
   pub parameters_count : (x : ℕ) →
       length (parameter_targets ctx (x + 1))
       ≡ length (parameter_targets ctx x) + length (ctx.places x)
@@ -471,28 +463,6 @@ module _ (ctx : Context) where
       with_more s t u _ _ _ h step (ap₂ (λ (n : ℕ) (ts : List Target). from_inputs 0 so
       ++ from_inputs n ts) (number ∙ zero_more) is ∙ sym (ap (from_inputs 0) (parameters_more x)
       ∙ from_inputs_append 0 _ _))
-
-  -- ## Copies
-
-  pub parameter_step :
-      (s t whole : State) (x inputs at to : ℕ) (all : List ℕ) → x < inputs → at ≤ length all →
-      with_copies s (copied (flat_map (variable_targets ctx) (drop x (range_with_len 0 inputs)))
-      (drop at all)) ≡ whole →
-      t ≡ with_copies s (copied (variable_targets ctx x) (drop at all)) →
-      to ≡ at + min (length (ctx.places x)) (length all - at) →
-      with_copies t (copied (flat_map (variable_targets ctx)
-      (drop (x + 1) (range_with_len 0 inputs))) (drop to all)) ≡ whole
-  parameter_step s t whole x inputs at to all lt within h et place =
-      let zero_x : 0 + x ≡ x = omega arith in
-      items_step (variable_targets ctx) s t whole x _ _ _ at to all (range_rest 0 _ x lt ∙ ap
-      (λ y. y ∷ drop (x + 1) (range_with_len 0 inputs)) zero_x) (start_target_count x) within h et place
-
-  pub parameter_ends :
-      (s whole : State) (x inputs at : ℕ) (all : List ℕ) → inputs ≤ x →
-      with_copies s (copied (flat_map (variable_targets ctx) (drop x (range_with_len 0 inputs)))
-      (drop at all)) ≡ whole → s ≡ whole
-  parameter_ends s whole x inputs at all le h =
-      items_end (variable_targets ctx) s whole _ (drop at all) (range_done 0 inputs x le) h
 
 -- ## What the observer receives
 

@@ -97,12 +97,6 @@ pub chain_step :
 chain_step k j op s t any last a all i whole lt h e clock at is =
     cc (chained_more k op s any all i 0 lt)
 
-pub chain_end :
-    (k : FlatClock) (op : BinaryOperator) (s : State) (any : ℕ) (all : List ℕ) (i : ℕ)
-    (whole : Emitted) → length all ≤ i → chained k op s any (drop i all) ≡ whole →
-    gives s (any ∷ []) ≡ whole
-chain_end k op s any all i whole le h = sym (chained_ends k op s any all i le) ∙ h
-
 pub twice_more :
     (k : FlatClock) (s : State) (any two : ℕ) (all : List ℕ) (i d : ℕ) → i < length all →
     twice k s any two (drop i all)
@@ -134,32 +128,26 @@ twice_step k s t u v any two both second last all i whole lt h et eb eu es ev el
     rest = cc in
     cc (twice_more k s any two all i 0 lt)
 
-pub twice_end :
-    (k : FlatClock) (s : State) (any two : ℕ) (all : List ℕ) (i : ℕ)
-    (whole : Emitted) → length all ≤ i → twice k s any two (drop i all) ≡ whole →
-    gives s (two ∷ []) ≡ whole
-twice_end k s any two all i whole le h = sym (twice_ends k s any two all i le) ∙ h
-
 -- `nor` and `#` are a constant, a chain and a negation, pushed one after another
 pub nor_is :
-    (k : FlatClock) (s first mid last : State) (start any : ℕ) (is : List ℕ) →
+    (k j i : FlatClock) (s first mid last : State) (start any : ℕ) (is js : List ℕ) →
     first ≡ push k s (Constant (Boolean false)) → start ≡ s.next →
-    gives mid (any ∷ []) ≡ chained k Or first start is →
-    last ≡ push k mid (ApplyUnary Not any) →
+    gives mid (any ∷ []) ≡ chained j Or first start js → j ≡ k → js ≡ is →
+    last ≡ push i mid (ApplyUnary Not any) → i ≡ j →
     gives last (mid.next ∷ []) ≡ emit_nor k s is
 unfolding add
-nor_is k s first mid last start any is ef en ec el =
+nor_is k j i s first mid last start any is js ef en ec ek found el same =
     let f : Emitted → Emitted = λ r. add k r.state (map (ApplyUnary Not) r.found) in
     cc
 
 pub at_most_one_is :
-    (k : FlatClock) (s first mid last : State) (start two : ℕ) (is : List ℕ) →
+    (k j i : FlatClock) (s first mid last : State) (start two : ℕ) (is js : List ℕ) →
     first ≡ push k s (Constant (Boolean false)) → start ≡ s.next →
-    gives mid (two ∷ []) ≡ twice k first start start is →
-    last ≡ push k mid (ApplyUnary Not two) →
+    gives mid (two ∷ []) ≡ twice j first start start js → j ≡ k → js ≡ is →
+    last ≡ push i mid (ApplyUnary Not two) → i ≡ j →
     gives last (mid.next ∷ []) ≡ emit_at_most_one k s is
 unfolding add
-at_most_one_is k s first mid last start two is ef en ec el =
+at_most_one_is k j i s first mid last start two is js ef en ec ek found el same =
     let f : Emitted → Emitted = λ r. add k r.state (map (ApplyUnary Not) r.found) in
     cc
 
@@ -184,8 +172,7 @@ picked_is from start count over skip all le is skips =
     (gone ∙ ap (λ n. n - start) (long ∙ sym is)) in
     cc (take-append-add below picked (min count (length picked)), take_min count picked)
   where
-    left_over : (start over skip n : ℕ) → skip ≡ min start over → n ≡ over - start →
-        over - skip ≡ n
+    left_over : (start over skip n : ℕ) → skip ≡ min start over → n ≡ over - start → over - skip ≡ n
     left_over start over skip n e f = grind (arith, e, f)
 
 pub ruleset keeps = (elements_push, numbers_push)

@@ -10,8 +10,7 @@ use Rattle.lb_expand.proofs.emission.{EmittedChains.picked_is, EmittedStacks.wit
 
 -- ## Fewer elements, and more
 
-pub numbers_cut : (n : ℕ) (xs : List ElementId) →
-    numbers_of (take n xs) ≡ take n (numbers_of xs)
+pub numbers_cut : (n : ℕ) (xs : List ElementId) → numbers_of (take n xs) ≡ take n (numbers_of xs)
 numbers_cut n xs = let number : ElementId → ℕ = λ a. a.0 in sym (take-map number n xs)
 
 pub elements_cut : (m n : ℕ) (xs : List ElementId) → All (λ a. a.0 < m) xs →

@@ -93,8 +93,7 @@ watched_ready cs ds f h root observer one other w is e g at there first second =
 -- ## The whole program
 
 -- clocks that wait for the first n elements wait for the first m, where n ≤ m
-pub clocks_later : (n m : ℕ) (clocks : List Clock) → AreClocks n clocks → n ≤ m →
-    AreClocks m clocks
+pub clocks_later : (n m : ℕ) (clocks : List Clock) → AreClocks n clocks → n ≤ m → AreClocks m clocks
 clocks_later n m clocks h le =
     All-weaker (IsTableClock n clocks) (IsTableClock m clocks) (λ c w. record {
       element = omega (arith, w.element);

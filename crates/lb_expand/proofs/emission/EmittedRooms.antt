@@ -1,33 +1,27 @@
 -- The effects of a term's forms, and the new numbers that they take.
 use Rattle.lb_expand.proofs.Words
-use Words.{◌≡◌, ◌<◌, ◌≤◌, ℕ, zero, suc, ◌+◌, ◌-◌, List, [], ◌∷◌, ◌++◌, length, take, drop, get_or}
-use Words.{min, Vec, Box, Global, arith, false, refl, sym, ap, ap₂, ◌∙◌, slice_range, drop-drop}
-use Words.{drop-append-le, length-drop, length-take-le, append-nil, take-append-drop}
-use Words.{take-append-le, drop_more, take_min, drop_min, drop-append_seam, Map, BinaryOperator}
-use Words.{UnaryOperator, first_value, VariableId, Term, Emitted, gives, emit_nor, emit_at_most_one}
-use Words.{Context, Cursor, each, memory, pairs, choose, symbol, with_one, with_two, with_all}
-use Words.{FlatClock, ApplyUnary, ApplyBinary, FirstThen, Previous, Latest, Sample, Choose, onto}
-use Words.{above, without, on_top, on_two, on_three, min-le_right, length-map, length-append, zip2}
-use Words.{Or, And, Not, Boolean, ClockId, ElementId, TermEmission, State, push, add, keep, chained}
-use Words.{twice, red, Operation, Constant, numbers_of, emitted_of, clock_of, Bool, ◌*◌, ◌^◌}
-use Words.{Option, map, subst, Clock}
-use Rattle.std.proofs.lemmas.List.{take-take, drop-take}
-use Rattle.lb_static.specs.declared.resolved.Term.{Unary, Binary, Arrow, Fby, Pre, Current, When}
-use Rattle.lb_static.specs.declared.resolved.Term.{Join, Array, AtMostOne, Nor}
-use Rattle.lb_expand.proofs.emission.EmittedStacks.{added_none, without_operands, length_of_part}
-use Rattle.lb_expand.proofs.emission.EmittedStacks.{numbers_many}
-use Rattle.lb_expand.proofs.emission.TermSteps.{next_of_add}
+use Words.{And, ApplyBinary, ApplyUnary, BinaryOperator, Bool, Boolean, Box, Choose, Clock, ClockId}
+use Words.{Constant, Context, Cursor, ElementId, Emitted, FirstThen, FlatClock, Global, Latest}
+use Words.{List, Map, Not, Operation, Option, Or, Previous, Sample, State, Term, TermEmission}
+use Words.{UnaryOperator, VariableId, Vec, [], above, ap, append-nil, ap₂, arith, chained, choose}
+use Words.{clock_of, drop, drop-append-le, drop-append_seam, drop-drop, drop_min, drop_more, each}
+use Words.{emit_at_most_one, emit_nor, emitted_of, false, first_value, get_or, gives, keep, length}
+use Words.{length-append, length-drop, length-map, length-take-le, map, memory, min, min-le_right}
+use Words.{numbers_of, on_three, on_top, on_two, onto, pairs, push, red, refl, slice_range, subst}
+use Words.{suc, sym, symbol, take, take-append-drop, take-append-le, take_min, twice, with_all}
+use Words.{with_one, with_two, without, zero, zip2, ℕ, ◌*◌, ◌++◌, ◌+◌, ◌-◌, ◌<◌, ◌^◌, ◌∙◌, ◌∷◌, ◌≡◌}
+use Words.{◌≤◌}
+use Rattle.lb_expand.proofs.emission.EmittedStacks.{added_none, length_of_part, numbers_many}
+use Rattle.lb_expand.proofs.emission.{EmittedStacks.without_operands, TermSteps.next_of_add}
+use Rattle.lb_static.specs.declared.resolved.Term.{Array, Arrow, AtMostOne, Binary, Current, Fby}
+use Rattle.lb_static.specs.declared.resolved.Term.{Join, Nor, Pre, Unary, When}
+use Rattle.std.proofs.lemmas.List.{drop-take, take-take}
 use Rattle.lb_flat.specs.Flat as flat
 
 -- The effect of a term on its operands, form by form, in the words of the code that expands
 -- resolved terms.
 
 -- ## One operand
-
--- equal words do the same on the top of a stack
-pub top_form : (from : ℕ) (f g : Emitted → Emitted) (x : Emitted) →
-    ((z : Emitted) → f z ≡ g z) → on_top from g x ≡ on_top from f x
-top_form from f g x is = sym (ap (onto (take from x.found)) (is (above from x)))
 
 -- ## Two operands
 
@@ -56,16 +50,6 @@ three_parts from middle all le =
     let skip : drop (middle - from) rest ≡ drop middle all =
     cc (drop-drop (middle - from) from all) in
     cc (take-append-drop (middle - from) rest, take-append-drop from all)
-
--- joining two operands leaves the stack as it is
-pub joined_stays : (from middle : ℕ) (x : Emitted) → from ≤ middle →
-    on_two from middle (λ xs y. gives y.state (xs ++ y.found)) x ≡ x
-joined_stays from middle x le =
-    ap (λ (is : List ℕ). gives x.state is) (three_parts from middle x.found le)
-
--- a word that does nothing leaves the stack as it is
-pub same_stays : (from : ℕ) (x : Emitted) → on_top from (λ y. y) x ≡ x
-same_stays from x = ap (λ (is : List ℕ). gives x.state is) (take-append-drop from x.found)
 
 drop_take : (m n : ℕ) (xs : List ℕ) → m ≤ n → drop m (take n xs) ≡ take (n - m) (drop m xs)
 drop_take m n xs le =
@@ -201,10 +185,6 @@ pub pairs_next : (k : FlatClock) (f : ℕ → ℕ → Operation) (xs : List ℕ)
     (pairs k f xs y).state.next ≡ y.state.next + min (length xs) (length y.found)
 pairs_next k f xs y = cc (next_of_add k y.state (zip2 f xs y.found), zip_length f xs y.found)
 
-pub chosen_next : (k : FlatClock) (c : ℕ) (cs xs : List ℕ) (y : Emitted) →
-    (choose k (c ∷ cs) xs y).state.next ≡ y.state.next + min (length xs) (length y.found)
-chosen_next k c cs xs y = pairs_next k (Choose c) xs y
-
 pub chained_next : (k : FlatClock) (op : BinaryOperator) (s : State) (init : ℕ) (ys : List ℕ) →
     (chained k op s init ys).state.next ≡ s.next + length ys
 unfolding chained
@@ -237,16 +217,12 @@ twice_one k s any two (x ∷ xs) =
     let u = push k t (ApplyBinary Or two s.next) in
     twice_one k (push k u (ApplyBinary Or any x)) u.next t.next xs
 
-negated_next : (k : FlatClock) (r : Emitted) →
-    (add k r.state (map (ApplyUnary Not) r.found)).state.next ≡ r.state.next + length r.found
-negated_next k r = each_next k (ApplyUnary Not) r
-
 pub nor_next : (k : FlatClock) (s : State) (is : List ℕ) →
     (emit_nor k s is).state.next ≡ s.next + 2 + length is
 nor_next k s is =
     let t = push k s (Constant (Boolean false)) in
     let r = chained k Or t s.next is in
-    let a = negated_next k r in
+    let a = each_next k (ApplyUnary Not) r in
     let b = chained_next k Or t s.next is in
     let d = chained_one k Or t s.next is in
     omega (arith, a, b, d)
@@ -256,7 +232,7 @@ pub one_next : (k : FlatClock) (s : State) (is : List ℕ) →
 one_next k s is =
     let t = push k s (Constant (Boolean false)) in
     let r = twice k t s.next s.next is in
-    let a = negated_next k r in
+    let a = each_next k (ApplyUnary Not) r in
     let b = twice_next k t s.next s.next is in
     let d = twice_one k t s.next s.next is in
     omega (arith, a, b, d)
@@ -403,7 +379,7 @@ choose_room from second third most x k less le within lt =
         (choose k cs xs (above third x)).state.next
         ≡ x.state.next + min (length xs) (length (drop third x.found))
     by_first [] xs lt = absurd (omega (arith, lt))
-    by_first (c ∷ cs) xs lt = chosen_next k c cs xs (above third x)
+    by_first (c ∷ cs) xs lt = pairs_next k (Choose c) xs (above third x)
 
 -- the room of an iterated symbol over two arrays
 pub map_room :

@@ -1,19 +1,19 @@
 -- Pushes of the code that expands resolved terms, and what its words leave on the stack.
 use Rattle.lb_expand.proofs.Words
-use Words.{◌≡◌, ◌<◌, ◌≤◌, ℕ, List, [], ◌∷◌, ◌++◌, arith, All, map-append, ElementId, numbers_of}
-use Words.{reads, keeps, operation_of, suc, ◌+◌, length, map, take, drop, get_or, min, ◌-◌, Option}
-use Words.{refl, sym, ap, ap₂, ◌∙◌, take-append_seam, drop-append_seam, append_assoc, append-nil}
-use Words.{drop_more, drop_all, drop-map, take-map, get_or-map, get_or-drop, length-append}
-use Words.{length-map, length-drop, take-append-le, All-take, All-drop, All-append, slice_range}
-use Words.{nat_le, nat_tests, zip2, ClockId, Emitted, numbered, numbers, add, FlatClock}
-use Words.{FlatEquation, flat_equations, equation_of, IsClock, IsWithin, add-sub_cancel_left, Bool}
-use Words.{true, false, All-push, All-weaker, onto, on_top, on_two, without, pushed, Clock}
-use Rattle.std.proofs.lemmas.List.{get_or-take, length-take, Elements.{All-nil, All-cons}}
-use Rattle.lb_flat.specs.declared.equation.{Equation.Equation, Operation.Operation}
-use Rattle.lb_flat.specs.declared.equation.Operation.TheVariants.{Input, Constant, Copy, ApplyUnary}
-use Rattle.lb_flat.specs.declared.equation.Operation.TheVariants.{ApplyBinary, Choose, FirstThen}
-use Rattle.lb_flat.specs.declared.equation.Operation.TheVariants.{Previous, Latest, Sample}
+use Words.{All, All-append, All-drop, All-push, All-take, All-weaker, Bool, Clock, ClockId}
+use Words.{ElementId, Emitted, FlatClock, FlatEquation, IsClock, IsWithin, List, Option, [], add}
+use Words.{add-sub_cancel_left, ap, append-nil, append_assoc, ap₂, arith, drop, drop-append_seam}
+use Words.{drop-map, drop_all, drop_more, equation_of, false, flat_equations, get_or, get_or-drop}
+use Words.{get_or-map, keeps, length, length-append, length-drop, length-map, map, map-append, min}
+use Words.{nat_le, nat_tests, numbered, numbers, numbers_of, on_top, on_two, onto, operation_of}
+use Words.{pushed, reads, refl, slice_range, suc, sym, take, take-append-le, take-append_seam}
+use Words.{take-map, true, without, zip2, ℕ, ◌++◌, ◌+◌, ◌-◌, ◌<◌, ◌∙◌, ◌∷◌, ◌≡◌, ◌≤◌}
 use Rattle.lb_expand.specs.{Emissions.AreBelow, TermEmissions.added}
+use Rattle.lb_flat.specs.declared.equation.{Equation.Equation, Operation.Operation}
+use Rattle.lb_flat.specs.declared.equation.Operation.TheVariants.{ApplyBinary, ApplyUnary, Choose}
+use Rattle.lb_flat.specs.declared.equation.Operation.TheVariants.{Constant, Copy, FirstThen, Input}
+use Rattle.lb_flat.specs.declared.equation.Operation.TheVariants.{Latest, Previous, Sample}
+use Rattle.std.proofs.lemmas.List.{get_or-take, length-take, Elements.{All-cons, All-nil}}
 use Rattle.lb_flat.specs.Flat as flat
 
 -- The effect of one push of the code that expands.
@@ -234,22 +234,17 @@ below_at xs ns i d lt e =
     cc (number_at xs i d within, get_or-take (length ns) (numbers_of xs) i 0 lt)
 
 -- a stack has at least the items that still stand below
-pub still_long : (xs : List ElementId) (ns : List ℕ) → take (length ns) (numbers_of xs) ≡ ns →
-    length ns ≤ length xs
-still_long xs ns e =
-    let size = length-map xs (λ (a : ElementId). a.0) in
-    let taken = length-take (length ns) (numbers_of xs) in
+pub still_long : (xs olds : List ElementId) →
+    take (length (numbers_of olds)) (numbers_of xs) ≡ numbers_of olds → length olds ≤ length xs
+still_long xs olds e =
+    let taken = length-take (length (numbers_of olds)) (numbers_of xs) in
     let same = ap (λ (is : List ℕ). length is) e in
-    grind (arith, taken, same, size)
+    grind (arith, taken, same, numbers_many xs, numbers_many olds)
 
 -- `map f` from place i on is `f` of item i, and then `map f` from i + 1 on
 pub map_more : (f : ℕ → flat.Operation) (ns : List ℕ) (i d : ℕ) → i < length ns →
     map f (drop i ns) ≡ f (get_or ns i d) ∷ map f (drop (i + 1) ns)
 map_more f ns i d lt = ap (map f) (drop_more ns i d lt)
-
-pub map_all : (f : ℕ → flat.Operation) (ns : List ℕ) (i : ℕ) → length ns ≤ i →
-    map f (drop i ns) ≡ []
-map_all f ns i le = ap (map f) (drop_all i ns le)
 
 -- `zip2 f` from place i on is `f` of the two items at i, and then `zip2 f` from i + 1 on
 pub zip_more :

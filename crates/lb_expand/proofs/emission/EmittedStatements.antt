@@ -1,24 +1,20 @@
 -- The code that expands operands, statements and rows of the table of instances.
 use Rattle.lb_expand.proofs.Words
-use Words.{◌≡◌, ◌<◌, ℕ, ◌+◌, ◌-◌, ◌^◌, List, ◌++◌, length, take, drop, Box, Global, arith, refl}
-use Words.{sym, ap, ap₂, subst, ◌∙◌, slice_range, take-append_seam, drop-append_seam, append_assoc}
-use Words.{length-append, add-sub_cancel_left, Term, State, Emitted, Context, Cursor, PlacedEmitted}
-use Words.{placed, next_term, choose, emit_term, emit_list, FlatClock, HasPlaces, HasRoom, stacked}
-use Words.{with_two, on_two}
-use Words.{onto, above, on_three, ◌≤◌, ◌∷◌, get_or, min, drop_more, drop_all, length-map}
-use Words.{ResolvedStatement, VariableId, assert, joins, copied, PlacedState, left_targets}
-use Words.{emit_statement, with_copies, with_asserted, suc, [], Some, None, Every, listed, Reached}
-use Words.{ResolvedNode, Table, Every-first, Every-second, with_body, body_in, bodies, IsCounted}
-use Words.{first_place, emit_statements, emit_rows, node_at, flat_map}
-use Rattle.{lb_static.specs.declared.resolved.Term.If, lb_expand.specs.Frames.placed_state}
-use Rattle.lb_expand.proofs.emission.EmittedCalls.{items_step, items_end}
-use Rattle.lb_expand.proofs.emission.EmittedStacks.{on_two_onto}
-use Rattle.lb_expand.proofs.emission.EmittedWalks.{place_grows, list_later, emitted_pair}
-use Rattle.lb_expand.proofs.emission.EmittedWalks.{emitted_if, places_before, IsLeft, left_place}
-use Rattle.lb_expand.proofs.emission.EmittedWalks.{left_emitted, left_above, if_word, IsNotAfter}
-use Rattle.lb_expand.proofs.emission.EmittedWalks.{then_later}
-use Rattle.lb_static.specs.TermForms.{IsPair}
-use Rattle.lb_expand.proofs.emission.TermSteps.{statements_grow, rows_grow}
+use Words.{Box, Context, Cursor, Emitted, Every, FlatClock, Global, HasPlaces, HasRoom, IsCounted}
+use Words.{List, PlacedEmitted, PlacedState, Reached, ResolvedNode, ResolvedStatement, Some, State}
+use Words.{Table, Term, [], above, add-sub_cancel_left, ap, append_assoc, ap₂, arith, assert}
+use Words.{bodies, body_in, choose, copied, drop, drop-append_seam, drop_all, drop_more, emit_list}
+use Words.{emit_rows, emit_statement, emit_statements, emit_term, first_place, flat_map, get_or}
+use Words.{joins, left_targets, length, length-append, next_term, node_at, on_three, on_two, onto}
+use Words.{placed, refl, slice_range, stacked, subst, suc, sym, take, take-append_seam}
+use Words.{with_asserted, with_copies, with_two, ℕ, ◌++◌, ◌+◌, ◌-◌, ◌<◌, ◌^◌, ◌∙◌, ◌∷◌, ◌≡◌, ◌≤◌}
+use Rattle.lb_expand.proofs.emission.{EmittedStacks.on_two_onto, EmittedWalks.{IsLeft, IsNotAfter}}
+use Rattle.lb_expand.proofs.emission.EmittedWalks.{emitted_if, emitted_pair, if_is, left_above}
+use Rattle.lb_expand.proofs.emission.EmittedWalks.{left_emitted, left_place, place_grows}
+use Rattle.lb_expand.proofs.emission.{EmittedWalks.{places_before, then_later}, TermSteps.Grows}
+use Rattle.lb_expand.proofs.emission.TermSteps.{assert_grows, grows, rows_grow, statements_step}
+use Rattle.{lb_expand.specs.Frames.placed_state, lb_static.specs.TermForms.IsPair}
+use Rattle.lb_static.specs.declared.resolved.Term.{If}
 use Rattle.lb_static.specs.declared.resolved.ResolvedStatement.TheVariants as statement
 use Rattle.lb_static.specs.declared.table.Instance as row
 
@@ -26,8 +22,7 @@ use Rattle.lb_static.specs.declared.table.Instance as row
 -- word on all of them leaves.
 
 -- the slice between the two seams of three joined lists is the second list
-slice_seam : (a b c : List ℕ) →
-    slice_range ((a ++ b) ++ c) (length a) (length (a ++ b)) ≡ b
+slice_seam : (a b c : List ℕ) → slice_range ((a ++ b) ++ c) (length a) (length (a ++ b)) ≡ b
 slice_seam a b c =
     let split = append_assoc a b c in
     let rest = ap (drop (length a)) split ∙ drop-append_seam a (b ++ c) in
@@ -43,8 +38,7 @@ pub on_three_onto :
     ≡ onto below (f cs xs y)
 on_three_onto f below cs xs y =
     let all = ((below ++ cs) ++ xs) ++ y.found in
-    let split : all ≡ (below ++ cs) ++ (xs ++ y.found) =
-    append_assoc (below ++ cs) xs y.found in
+    let split : all ≡ (below ++ cs) ++ (xs ++ y.found) = append_assoc (below ++ cs) xs y.found in
     let first : take (length below) all ≡ below =
     ap (take (length below)) (split ∙ append_assoc below cs (xs ++ y.found))
     ∙ take-append_seam below (cs ++ (xs ++ y.found)) in
@@ -82,16 +76,14 @@ module _ {below : List ℕ} {x y : PlacedEmitted} {to up : Cursor} {mid next : E
   middle_is = cc (left_emitted first)
 
   pub first_part : slice_range next.found m n ≡ x.emitted.found
-  first_part =
-      cc (left_emitted second, middle_is, slice_seam below x.emitted.found y.emitted.found)
+  first_part = cc (left_emitted second, middle_is, slice_seam below x.emitted.found y.emitted.found)
 
   pub second_part : above n next ≡ y.emitted
   second_part = left_above second middle_is
 
   two_top : (f : List ℕ → Emitted → Emitted) →
       on_two m n f next ≡ onto below (f x.emitted.found y.emitted)
-  two_top f =
-      cc (left_emitted second, middle_is, on_two_onto f below x.emitted.found y.emitted)
+  two_top f = cc (left_emitted second, middle_is, on_two_onto f below x.emitted.found y.emitted)
 
 -- a term with two operands is done when the word on both is
 pub pair_done :
@@ -157,7 +149,8 @@ module _ (ctx : Context) (at : Cursor) (s : State) {t : Term} {c a b : Box Term 
       (choose k (slice_range next.found l m) (slice_range next.found m n)
       (above n next)).state.next < 2 ^ 32
   three_left room =
-      rw (ap (λ (z : Emitted). z.state.next) three_is) (if_word ctx at s is room)
+      rw (ap (λ (z : Emitted). z.state.next) three_is) ((subst HasRoom (if_is ctx at s is)
+      room).elements)
 
 -- ## Where operands begin
 
@@ -168,10 +161,6 @@ start_fits ctx at s e h =
     let later = place_grows ctx (next_term at) s e in
     let lt = h.places.terms in
     omega (arith, later, lt)
-
-pub list_start : (ctx : Context) (at : Cursor) (s : State) (es : List Term) →
-    HasRoom (emit_list ctx at s es) → HasPlaces at
-list_start ctx at s es h = places_before at _ (list_later ctx at s es) h.places
 
 -- a term has room if an equal term at an equal place has room
 pub same_room :
@@ -188,29 +177,6 @@ same_list ctx s place is h = rw (ap₂ (λ p es. emit_list ctx p s es) place is)
 -- the stack.
 
 module _ (ctx : Context) where
-  -- a step of the loop over left variables: after variable i, those from i + 1 on are left
-  pub left_step :
-      (s t whole : State) (lefts : List VariableId) (i at to : ℕ) (x d : VariableId)
-      (all : List ℕ) → i < length lefts → x ≡ get_or lefts i d → at ≤ length all →
-      with_copies s (copied (flat_map (left_targets ctx) (drop i lefts)) (drop at all)) ≡ whole →
-      t ≡ with_copies s (copied (left_targets ctx x) (drop at all)) →
-      to ≡ at + min (length (ctx.places x.0)) (length all - at) →
-      with_copies t (copied (flat_map (left_targets ctx) (drop (i + 1) lefts)) (drop to all))
-      ≡ whole
-  left_step s t whole lefts i at to x d all lt is within h et place =
-      items_step (left_targets ctx) s t whole x (drop (i + 1) lefts) (drop i lefts)
-      (length (ctx.places x.0)) at to all
-      (drop_more lefts i d lt ∙ ap (λ (x : VariableId). x ∷ drop (i + 1) lefts) (sym is))
-      (length-map (ctx.places x.0) (λ p. record { place = p; clock = ctx.declared x.0 })) within
-      h et place
-
-  pub left_ends :
-      (s whole : State) (lefts : List VariableId) (i at : ℕ) (all : List ℕ) → length lefts ≤ i →
-      with_copies s (copied (flat_map (left_targets ctx) (drop i lefts)) (drop at all)) ≡ whole →
-      s ≡ whole
-  left_ends s whole lefts i at all le h =
-      items_end (left_targets ctx) s whole _ (drop at all) (drop_all i lefts le) h
-
   -- the room of a statement is that of its term
   equation_is :
       (at : Cursor) (s : State) {x : ResolvedStatement} {lefts : _} {e : Term} →
@@ -332,7 +298,7 @@ module _ (ctx : Context) where
   statement_room at s xs i x d whole lt is h most =
       let r = emit_statement ctx at s (get_or xs i d) in
       let rest = drop (i + 1) xs in
-      let grows = statements_grow ctx r.place r.state rest in
+      let grows = statements_step Grows grows assert_grows ctx r.place r.state rest in
       let same = ap (λ (r : PlacedState). r.state.next)
       (sym h ∙ statements_more at s xs i d lt) in
       let first : r.state.next < 2 ^ 32 = omega (arith, grows, same, most) in
@@ -359,8 +325,7 @@ pub rows_append : (s : State) (xs ys : List (Context × List ResolvedStatement))
     emit_rows s (xs ++ ys) ≡ emit_rows (emit_rows s xs) ys
 unfolding emit_rows
 rows_append s [] ys = refl
-rows_append s (x ∷ xs) ys =
-    rows_append (emit_statements x.0 first_place s x.1).state xs ys
+rows_append s (x ∷ xs) ys = rows_append (emit_statements x.0 first_place s x.1).state xs ys
 
 pub one_row : (s : State) (ctx : Context) (xs : List ResolvedStatement) →
     emit_rows s ((ctx, xs) ∷ []) ≡ (emit_statements ctx first_place s xs).state
@@ -380,10 +345,6 @@ module _ (r : Reached) (t : Table) (cs : ℕ → Context) where
   bodies_more is j d lt =
       let next : suc j ≡ j + 1 = omega arith in
       cc (drop_more is j d lt)
-
-  bodies_none : (j : ℕ) → bodies r t cs j [] ≡ []
-  unfolding bodies
-  bodies_none j = refl
 
   row_first :
       (s : State) (is : List row.Instance) (j : ℕ) (i d : row.Instance) → j < length is →
@@ -407,7 +368,9 @@ module _ (r : Reached) (t : Table) (cs : ℕ → Context) where
   pub rows_end :
       (s whole : State) (is : List row.Instance) (j : ℕ) → length is ≤ j →
       emit_rows s (bodies r t cs j (drop j is)) ≡ whole → s ≡ whole
-  rows_end s whole is j le h = cc (drop_all j is le, bodies_none j, no_row s)
+  unfolding emit_rows bodies
+  rows_end s whole is j le h =
+      sym (ap (λ is. emit_rows s (bodies r t cs j is)) (drop_all j is le)) ∙ h
 
   -- a row has room if all rows from it on have room
   pub row_room :
@@ -420,27 +383,11 @@ module _ (r : Reached) (t : Table) (cs : ℕ → Context) where
       let same = ap (λ (s : State). s.next) (sym h ∙ row_first s is j i d lt e) in
       omega (arith, grows, same, most)
 
-  counted_more :
+  pub counted_more :
       (is : List row.Instance) (j : ℕ) (i d : row.Instance) → j < length is →
       i ≡ get_or is j d → Every IsCounted (bodies r t cs j (drop j is)) →
       Every IsCounted (body_in r t cs j i ++ bodies r t cs (j + 1) (drop (j + 1) is))
   counted_more is j i d lt e h = rw e (subst (Every IsCounted) (bodies_more is j d lt) h)
-
-  pub row_counted :
-      (is : List row.Instance) (j : ℕ) (i d : row.Instance) → j < length is →
-      i ≡ get_or is j d → Every IsCounted (bodies r t cs j (drop j is)) →
-      Every IsCounted (body_in r t cs j i)
-  row_counted is j i d lt e h =
-      Every-first IsCounted (body_in r t cs j i) (bodies r t cs (j + 1) (drop (j + 1) is))
-      (counted_more is j i d lt e h)
-
-  pub rest_counted :
-      (is : List row.Instance) (j : ℕ) (i d : row.Instance) → j < length is →
-      i ≡ get_or is j d → Every IsCounted (bodies r t cs j (drop j is)) →
-      Every IsCounted (bodies r t cs (j + 1) (drop (j + 1) is))
-  rest_counted is j i d lt e h =
-      Every-second IsCounted (body_in r t cs j i) (bodies r t cs (j + 1) (drop (j + 1) is))
-      (counted_more is j i d lt e h)
 
   abbrev one_body : Context → List ResolvedStatement → List (Context × List ResolvedStatement)
   one_body ctx xs = (ctx, xs) ∷ []
@@ -458,10 +405,6 @@ module _ (r : Reached) (t : Table) (cs : ℕ → Context) where
       xs ≡ n.body.items →
       emit_rows s (body_in r t cs j i) ≡ (emit_statements ctx first_place s xs).state
   row_is s j i n ctx xs e at is = cc (found_body j i n ctx xs e at is, one_row s ctx xs)
-
-  pub row_none : (s : State) (j : ℕ) (i : row.Instance) → node_at r t i ≡ None →
-      emit_rows s (body_in r t cs j i) ≡ s
-  row_none s j i e = ap (λ o. emit_rows s (listed (with_body (cs j)) o)) e ∙ no_row s
 
   pub row_places :
       (s : State) (j : ℕ) (i : row.Instance) (n : ResolvedNode) (ctx : Context)

@@ -1,27 +1,28 @@
 -- The statements of nodes and the rows of the table emit what the instances of the program emit.
 use Rattle.lb_expand.proofs.Words
-use Words.{◌≡◌, ℕ, ◌+◌, true, List, [], ◌∷◌, ◌++◌, map, flat_map, length, refl, sym, ap, ap₂, ◌∙◌}
-use Words.{subst, list_all, Name, Statement, and_first, and_second, Program, Instance, Path}
-use Words.{node_sites, sites, statement_sites, Texts, expr_of, name_at, statement_of, is_variable}
-use Words.{is_within, is_statement_within, ResolvedStatement, VariableId, Occurrence, call_count}
-use Words.{occurrences, node_occurrences, statement_clock, History, State, Target, assert, copied}
-use Words.{emit, emit_body, joins, targets, Context, Cursor, PlacedEmitted, emit_statement}
-use Words.{emit_statements, first_place, left_targets, FlatClock, Layout, ◌<◌, Some, None}
-use Words.{option_map, arith, slice_get, length-map, slice_get-map, Every, In, Expr, Declaration}
-use Words.{Node, variables, width, instances, static_refusal, IsTable, node_parts, IsReached}
-use Words.{node_of, counts_of, texts_of, Reached, Table, in_at, check_refusal, data_type}
-use Words.{part_count, is_typed, Every-at, HasTypes, occurrences_typed, flat_clock, layout}
-use Rattle.lb_static.specs.ResolvedTerms.{is_statement_unhidden, Counts}
-use Rattle.lb_check.specs.Elements.{numbers_of}
+use Words.{Context, Cursor, Declaration, Every, Every-at, Expr, HasTypes, History, In, Instance}
+use Words.{IsReached, IsTable, Layout, List, Name, Node, None, Occurrence, Path, PlacedEmitted}
+use Words.{PlacedState, Program, Reached, ResolvedStatement, Some, State, Statement, Table, Target}
+use Words.{Texts, VariableId, [], and_first, and_second, ap, ap₂, arith, assert, call_count}
+use Words.{check_refusal, copied, counts_of, data_type, emit, emit_body, emit_statement}
+use Words.{emit_statements, expr_of, first_place, flat_clock, flat_map, in_at, instances}
+use Words.{is_statement_within, is_typed, is_variable, is_within, joins, layout, left_targets}
+use Words.{length, length-map, list_all, map, name_at, node_occurrences, node_of, node_parts}
+use Words.{node_sites, occurrences, occurrences_typed, option_map, part_count, refl, sites}
+use Words.{slice_get, slice_get-map, statement_clock, statement_of, statement_sites, static_refusal}
+use Words.{subst, sym, targets, texts_of, true, variables, width, ℕ, ◌++◌, ◌+◌, ◌<◌, ◌∙◌, ◌∷◌, ◌≡◌}
 use Rattle.lb_check.proofs.programs.OccurrenceParts.{node_occurrence_parts}
 use Rattle.lb_check.proofs.programs.OccurrenceSites.{body_occurrences, site_is}
-use Rattle.lb_expand.proofs.emission.EmittedTerms.{AreTermsAt, IsTermAt, term_is, IsSmall}
-use Rattle.lb_expand.proofs.frames.{RowContexts.own_resolved, TermPlaces.{IsContext, along_first}}
-use Rattle.lb_expand.proofs.frames.TermPlaces.{along_second, past, past_both, past_none, Along}
-use Rattle.lb_expand.proofs.{frames.TermPlaces.along_from, numbering.NumberedPlaces.places_width}
-use Rattle.lb_expand.proofs.{numbering.RowInstances.IsRow, widths.SoundInstances.all_typed}
-use Rattle.lb_expand.proofs.widths.{SoundInstances.calls_wide, Widths.AreVariablesWide}
-use Rattle.lb_expand.proofs.widths.Widths.{IsOccurrenceWide}
+use Rattle.{lb_check.specs.Elements.numbers_of, lb_expand.proofs.emission.EmittedTerms.AreTermsAt}
+use Rattle.lb_expand.proofs.emission.EmittedTerms.{IsSmall, IsTermAt, term_is}
+use Rattle.lb_expand.proofs.frames.{RowContexts.own_resolved, TermPlaces.{Along, IsContext}}
+use Rattle.lb_expand.proofs.frames.TermPlaces.{along_first, along_from, along_second, past}
+use Rattle.lb_expand.proofs.frames.TermPlaces.{past_both, past_none}
+use Rattle.lb_expand.proofs.numbering.{NumberedPlaces.places_width, RowInstances.IsRow}
+use Rattle.lb_expand.proofs.widths.{SoundInstances.{all_typed, calls_wide}, Widths.AreVariablesWide}
+use Rattle.lb_expand.{proofs.widths.Widths.IsOccurrenceWide, specs.Frames.placed_state}
+use Rattle.{lb_expand.specs.Frames.targets_of, lb_static.specs.ResolvedTerms.Counts}
+use Rattle.lb_static.specs.ResolvedTerms.{is_statement_unhidden}
 use Rattle.lb_syntax.specs.Tree as tree
 use Rattle.lb_static.specs.declared.resolved.ResolvedStatement.TheVariants as statement
 use Rattle.lb_static.specs.declared.table.Instance as row
@@ -38,9 +39,6 @@ module _ (Y : Layout) (P : Program) (H : History) (here : Instance) (texts : Tex
 
   -- ## Left variables
 
-  abbrev targets_on : FlatClock → List ℕ → List Target
-  targets_on k is = map (λ i. record { place = i; clock = k }) is
-
   lefts_are :
       (xs : List VariableId) → list_all (is_variable n) xs ≡ true →
       flat_map (left_targets ctx) xs
@@ -49,24 +47,26 @@ module _ (Y : Layout) (P : Program) (H : History) (here : Instance) (texts : Tex
   lefts_are (x ∷ xs) w =
       let own = and_first (is_variable n x) _ w in
       ap₂ (λ (ts us : List Target). ts ++ us)
-      (ap₂ targets_on (context.declared x own) (context.places x own))
+      (ap₂ targets_of (context.declared x own) (context.places x own))
       (lefts_are xs (and_second (is_variable n x) _ w))
 
   -- ## Statements
 
-  abbrev IsBodySame : Cursor → State → List ResolvedStatement → Type 0
-  IsBodySame at s ss =
-      (emit_statements ctx at s ss).state
-      ≡ emit_body Y P here at.call s (map (statement_of texts) ss)
+  -- the state after some statements, and the place after all their terms and calls
+  abbrev emitted_body : Cursor → State → List Statement → PlacedState
+  emitted_body at s ss =
+      placed_state
+      (past at (body_occurrences P here.node at.call ss) (length (flat_map statement_sites ss)))
+      (emit_body Y P here at.call s ss)
 
-  pub statements_are :
+  statements_are :
       (at : Cursor) (s : State) (ss : List ResolvedStatement) →
       list_all (is_statement_within n) ss ≡ true →
       list_all (is_statement_unhidden texts) ss ≡ true →
       Standing at.term (body_occurrences P here.node at.call (map (statement_of texts) ss)) →
-      IsBodySame at s ss
+      emit_statements ctx at s ss ≡ emitted_body at s (map (statement_of texts) ss)
   unfolding emit_statements emit_statement emit_body
-  statements_are at s [] w u h = refl
+  statements_are at s [] w u h = ap (λ p. placed_state p s) (past_none at)
   statements_are at s (statement.Equation lefts e ∷ ss) w u h =
       let own = is_statement_within n (statement.Equation lefts e) in
       let ew = and_first own _ w in
@@ -75,124 +75,59 @@ module _ (Y : Layout) (P : Program) (H : History) (here : Instance) (texts : Tex
       let names = map (name_at texts.variables) lefts.items in
       let k = statement_clock P here.node (tree.Equation names x) in
       let os = occurrences P here.node k at.call x in
-      let rest = body_occurrences P here.node (at.call + call_count x) (map (statement_of texts) ss)
-      in
+      let trees = map (statement_of texts) ss in
+      let rest = body_occurrences P here.node (at.call + call_count x) trees in
       let to = past at os (call_count x) in
       let y = emit Y P here k at.call s x in
       let is = term_is Y P H here texts n ctx context same variables_wide k at s e
       (and_second (list_all (is_variable n) lefts.items) (is_within n e) ew) eu
       (along_first (IsTermAt Y P H here ctx) at.term os rest h) in
+      let ts = flat_map (targets Y here.node here.path) names in
+      let state = (joins y.state (copied ts y.found) []).state in
       ap (λ (x : PlacedEmitted).
-      (emit_statements ctx x.place
+      emit_statements ctx x.place
       (joins x.emitted.state
-      (copied (flat_map (left_targets ctx) lefts.items) x.emitted.found) []).state ss).state) is
+      (copied (flat_map (left_targets ctx) lefts.items) x.emitted.found) []).state ss) is
       ∙ ap (λ (ts : List Target).
-      (emit_statements ctx to (joins y.state (copied ts y.found) []).state ss).state)
+      emit_statements ctx to (joins y.state (copied ts y.found) []).state ss)
       (lefts_are lefts.items (and_first (list_all (is_variable n) lefts.items) _ ew))
-      ∙ statements_are to
-      (joins y.state (copied (flat_map (targets Y here.node here.path) names) y.found) []).state ss
-      (and_second own _ w)
+      ∙ statements_are to state ss (and_second own _ w)
       (and_second (is_statement_unhidden texts (statement.Equation lefts e)) _ u)
       (along_second (IsTermAt Y P H here ctx) at.term os rest h)
+      ∙ ap (λ p. placed_state p (emit_body Y P here to.call state trees))
+      (past_both at os rest (sites x) (flat_map statement_sites trees))
   statements_are at s (statement.Assertion e ∷ ss) w u h =
       let own = is_statement_within n (statement.Assertion e) in
       let x = expr_of texts e in
       let k = statement_clock P here.node (tree.Assertion x) in
       let os = occurrences P here.node k at.call x in
-      let rest = body_occurrences P here.node (at.call + call_count x) (map (statement_of texts) ss)
-      in
+      let trees = map (statement_of texts) ss in
+      let rest = body_occurrences P here.node (at.call + call_count x) trees in
       let to = past at os (call_count x) in
       let y = emit Y P here k at.call s x in
       let is = term_is Y P H here texts n ctx context same variables_wide k at s e
       (and_first own _ w)
       (and_first (is_statement_unhidden texts (statement.Assertion e)) _ u)
       (along_first (IsTermAt Y P H here ctx) at.term os rest h) in
-      ap (λ (x : PlacedEmitted). (emit_statements ctx x.place (assert x.emitted) ss).state) is
+      ap (λ (x : PlacedEmitted). emit_statements ctx x.place (assert x.emitted) ss) is
       ∙ statements_are to (assert y) ss (and_second own _ w)
       (and_second (is_statement_unhidden texts (statement.Assertion e)) _ u)
       (along_second (IsTermAt Y P H here ctx) at.term os rest h)
+      ∙ ap (λ p. placed_state p (emit_body Y P here to.call (assert y) trees))
+      (past_both at os rest (sites x) (flat_map statement_sites trees))
 
-  -- all statements of a node emit what the body of its tree emits
+  -- all statements of a node emit what the body of its tree emits, up to the place past all its
+  -- terms and calls
   pub body_is :
       (ss : List ResolvedStatement) → map (statement_of texts) ss ≡ here.node.body →
       list_all (is_statement_within n) ss ≡ true →
       list_all (is_statement_unhidden texts) ss ≡ true →
       Standing 0 (node_occurrences P here.node) → (s : State) →
-      (emit_statements ctx first_place s ss).state ≡ emit_body Y P here 0 s here.node.body
+      emit_statements ctx first_place s ss ≡ emitted_body first_place s here.node.body
   body_is ss body w u h s =
       statements_are first_place s ss w u
       (subst (λ b. Standing 0 (body_occurrences P here.node 0 b)) (sym body) h)
-      ∙ ap (emit_body Y P here 0 s) body
-
-  -- ## Places
-
-  -- the place after all terms and calls of some statements
-  abbrev past_all : Cursor → List Statement → Cursor
-  past_all at ss =
-      past at (body_occurrences P here.node at.call ss) (length (flat_map statement_sites ss))
-
-  places_are :
-      (at : Cursor) (s : State) (ss : List ResolvedStatement) →
-      list_all (is_statement_within n) ss ≡ true →
-      list_all (is_statement_unhidden texts) ss ≡ true →
-      Standing at.term (body_occurrences P here.node at.call (map (statement_of texts) ss)) →
-      (emit_statements ctx at s ss).place ≡ past_all at (map (statement_of texts) ss)
-  unfolding emit_statements emit_statement
-  places_are at s [] w u h = past_none at
-  places_are at s (statement.Equation lefts e ∷ ss) w u h =
-      let own = is_statement_within n (statement.Equation lefts e) in
-      let ew = and_first own _ w in
-      let eu = and_first (is_statement_unhidden texts (statement.Equation lefts e)) _ u in
-      let x = expr_of texts e in
-      let names = map (name_at texts.variables) lefts.items in
-      let k = statement_clock P here.node (tree.Equation names x) in
-      let os = occurrences P here.node k at.call x in
-      let trees = map (statement_of texts) ss in
-      let rest = body_occurrences P here.node (at.call + call_count x) trees in
-      let to = past at os (call_count x) in
-      let y = emit Y P here k at.call s x in
-      let is = term_is Y P H here texts n ctx context same variables_wide k at s e
-      (and_second (list_all (is_variable n) lefts.items) (is_within n e) ew) eu
-      (along_first (IsTermAt Y P H here ctx) at.term os rest h) in
-      cc (
-        places_are to
-            (joins y.state (copied (flat_map (left_targets ctx) lefts.items) y.found) []).state ss
-            (and_second own _ w)
-            (and_second (is_statement_unhidden texts (statement.Equation lefts e)) _ u)
-            (along_second (IsTermAt Y P H here ctx) at.term os rest h),
-        past_both at os rest (sites x) (flat_map statement_sites trees),
-      )
-  places_are at s (statement.Assertion e ∷ ss) w u h =
-      let own = is_statement_within n (statement.Assertion e) in
-      let x = expr_of texts e in
-      let k = statement_clock P here.node (tree.Assertion x) in
-      let os = occurrences P here.node k at.call x in
-      let trees = map (statement_of texts) ss in
-      let rest = body_occurrences P here.node (at.call + call_count x) trees in
-      let to = past at os (call_count x) in
-      let y = emit Y P here k at.call s x in
-      let is = term_is Y P H here texts n ctx context same variables_wide k at s e
-      (and_first own _ w)
-      (and_first (is_statement_unhidden texts (statement.Assertion e)) _ u)
-      (along_first (IsTermAt Y P H here ctx) at.term os rest h) in
-      ap (λ (x : PlacedEmitted). (emit_statements ctx x.place (assert x.emitted) ss).place) is
-      ∙ places_are to (assert y) ss (and_second own _ w)
-      (and_second (is_statement_unhidden texts (statement.Assertion e)) _ u)
-      (along_second (IsTermAt Y P H here ctx) at.term os rest h)
-      ∙ past_both at os rest (sites x) (flat_map statement_sites trees)
-
-  -- the place after all statements of a node is past all its terms and calls
-  pub body_place_is :
-      (ss : List ResolvedStatement) → map (statement_of texts) ss ≡ here.node.body →
-      list_all (is_statement_within n) ss ≡ true →
-      list_all (is_statement_unhidden texts) ss ≡ true →
-      Standing 0 (node_occurrences P here.node) → (s : State) →
-      (emit_statements ctx first_place s ss).place
-      ≡ past first_place (node_occurrences P here.node) (length (node_sites here.node))
-  body_place_is ss body w u h s =
-      places_are first_place s ss w u
-      (subst (λ b. Standing 0 (body_occurrences P here.node 0 b)) (sym body) h)
-      ∙ ap (past_all first_place) body
+      ∙ ap (emitted_body first_place s) body
 
 -- The rows of the table, statement by statement with resolved names, emit what all instances of the
 -- program emit.
@@ -230,8 +165,7 @@ module _ (P : Program) (accepted : static_refusal P ≡ None) (checked : check_r
       length ((layout P).places p x) ≡ length (wide_history.columns p x)
   same_widths p x = sym (length-map (numbers_of P p x) (λ i. []))
 
-  own_wide :
-      (c : Instance) → In c (instances P) → AreVariablesWide P wide_history c c
+  own_wide : (c : Instance) → In c (instances P) → AreVariablesWide P wide_history c c
   own_wide c j =
       widths_in c (variables c.node) (places_width P accepted c j)
     where
@@ -240,11 +174,9 @@ module _ (P : Program) (accepted : static_refusal P ≡ None) (checked : check_r
           Every (λ d. length ((layout P).places c.path d.name) ≡ width P c d) ds →
           Every (λ d. length (wide_history.columns c.path d.name) ≡ width P c d) ds
       widths_in c [] h = tt
-      widths_in c (d ∷ ds) h =
-          (sym (same_widths c.path d.name) ∙ h.0, widths_in c ds h.1)
+      widths_in c (d ∷ ds) h = (sym (same_widths c.path d.name) ∙ h.0, widths_in c ds h.1)
 
-  module _ (here : Instance) (there : In here (instances P)) (texts : Texts) (n : Counts)
-      (ctx : Context) (context : IsContext (layout P) P here texts n ctx)
+  module _ (here : Instance) (there : In here (instances P)) (ctx : Context)
       (terms : AreTermsOf P here ctx) where
     expr_there :
         (j : ℕ) (o : Occurrence) → slice_get (node_occurrences P here.node) j ≡ Some o →
@@ -284,53 +216,23 @@ module _ (P : Program) (accepted : static_refusal P ≡ None) (checked : check_r
         along_from (IsTermAt (layout P) P wide_history here ctx) 0 (node_occurrences P here.node) (λ
         j o e. let start : j ≡ 0 + j = omega arith in rw (← start) (term_there j o e))
 
-    -- the statements of a resolved node emit what the body of its instance emits
-    pub instance_body_is :
-        (ss : List ResolvedStatement) → map (statement_of texts) ss ≡ here.node.body →
-        list_all (is_statement_within n) ss ≡ true →
-        list_all (is_statement_unhidden texts) ss ≡ true → (s : State) →
-        (emit_statements ctx first_place s ss).state
-        ≡ emit_body (layout P) P here 0 s here.node.body
-    instance_body_is ss body w u s =
-        body_is (layout P) P wide_history here texts n ctx context same_widths
-        (own_wide here there) ss body w u terms_there s
-
-    -- the place after these statements is past all terms and calls of the node
-    pub instance_place_is :
-        (ss : List ResolvedStatement) → map (statement_of texts) ss ≡ here.node.body →
-        list_all (is_statement_within n) ss ≡ true →
-        list_all (is_statement_unhidden texts) ss ≡ true → (s : State) →
-        (emit_statements ctx first_place s ss).place
-        ≡ past first_place (node_occurrences P here.node) (length (node_sites here.node))
-    instance_place_is ss body w u s =
-        body_place_is (layout P) P wide_history here texts n ctx context same_widths
-        (own_wide here there) ss body w u terms_there s
-
   -- ## Rows
 
   module _ (r : Reached) (t : Table) (reached : IsReached P r) (table : IsTable P r t) where
-    -- the statements of a row emit what the body of its instance emits
-    pub row_body_is :
+    -- the statements of a row emit what the body of its instance emits, up to the place past all
+    -- its terms and calls
+    pub row_is :
         (k : ℕ) (i : row.Instance) (here : Instance) (is : IsRow P r t table k i here)
         (ctx : Context) → IsRowContext P r t table k i here is ctx → (s : State) →
-        (emit_statements ctx first_place s is.node.body.items).state
-        ≡ emit_body (layout P) P here 0 s here.node.body
-    row_body_is k i here is ctx h s =
+        emit_statements ctx first_place s is.node.body.items
+        ≡ placed_state
+        (past first_place (node_occurrences P here.node) (length (node_sites here.node)))
+        (emit_body (layout P) P here 0 s here.node.body)
+    row_is k i here is ctx h s =
         let own = own_resolved P r t reached table accepted k i here is in
         let node : here.node ≡ node_of is.node = ap (λ (c : Instance). c.node) is.same in
-        instance_body_is here (in_at (instances P) k here is.instance_is) (texts_of is.node)
-        (counts_of is.node) ctx h.context h.terms is.node.body.items
-        (own.body ∙ ap (λ (m : Node). m.body) (sym node)) own.body_within own.unhidden s
-
-    -- the place after the statements of a row is past all terms and calls of its instance
-    pub row_place_is :
-        (k : ℕ) (i : row.Instance) (here : Instance) (is : IsRow P r t table k i here)
-        (ctx : Context) → IsRowContext P r t table k i here is ctx → (s : State) →
-        (emit_statements ctx first_place s is.node.body.items).place
-        ≡ past first_place (node_occurrences P here.node) (length (node_sites here.node))
-    row_place_is k i here is ctx h s =
-        let own = own_resolved P r t reached table accepted k i here is in
-        let node : here.node ≡ node_of is.node = ap (λ (c : Instance). c.node) is.same in
-        instance_place_is here (in_at (instances P) k here is.instance_is) (texts_of is.node)
-        (counts_of is.node) ctx h.context h.terms is.node.body.items
-        (own.body ∙ ap (λ (m : Node). m.body) (sym node)) own.body_within own.unhidden s
+        let there = in_at (instances P) k here is.instance_is in
+        body_is (layout P) P wide_history here (texts_of is.node) (counts_of is.node) ctx h.context
+        same_widths (own_wide here there) is.node.body.items
+        (own.body ∙ ap (λ (m : Node). m.body) (sym node)) own.body_within own.unhidden
+        (terms_there here there ctx h.terms) s

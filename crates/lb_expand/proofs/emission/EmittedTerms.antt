@@ -1,40 +1,39 @@
 -- A term with resolved names emits what its expression emits.
 use Rattle.lb_expand.proofs.Words
-use Words.{◌≡◌, ◌⊎◌, inl, inr, ℕ, ◌*◌, true, Some, List, [], ◌∷◌, ◌++◌, map, length, take, drop}
-use Words.{sym, ap, ap₂, ◌∙◌, subst, arith, drop-append_seam, append-nil, take-append-le, take_all}
-use Words.{ArrayIterator, Map, Red, Fill, BinaryOperator, Every, joined, zip2, Name, Static, Symbol}
-use Words.{Iterate, Exprs, heads_same, Program, Instance, Path, static_count, DataType, int, truth}
-use Words.{element_count, occurrences_in, History, number, data_types, all_types, operator_types}
-use Words.{iterator_types, is_arithmetic, is_logical, symbol_types, State, add, chained, gives}
-use Words.{emit_all, emit_symbol, symbol, FlatClock, ApplyBinary, Layout, ◌<◌, suc, ◌+◌, ◌-◌, false}
-use Words.{pos, refl, ◌>>=◌, copies, either_or, Expr, and_first, and_second, variables, Site}
-use Words.{call_site, sites, sites_in, node_named, node_sites, Texts, expr_of, name_at, named_value}
-use Words.{static_at, site_at, is_variable, is_static, is_call, is_within, are_within, named}
-use Words.{StaticId, VariableId, Term, Value, Group', Unary', Binary', If', Arrow', Fby', Pre'}
-use Words.{Current', When', Replicate', Index', Slice', Join', Array', AtMostOne', Nor', Call'}
-use Words.{IterateNode', IterateSymbol', Row_of-Term, end_of-Term, more_of-Term, Occurrence}
-use Words.{call_count, call_clocks, occurrences, occurrences_each, Integer, Boolean, Bad}
-use Words.{first_value, data_type, part_count, index_type, only, slice_type, own_site, first_of_all}
-use Words.{Emitted, EmittedAll, emit, emit_each, emit_name, emit_at_most_one, emit_nor, joins}
-use Words.{Context, Cursor, PlacedEmitted, call, choose, constant, each, emit_row, emit_term}
-use Words.{iterate, literal, memory, next_call, next_term, pairs, picked, placed, ApplyUnary}
-use Words.{FirstThen, Latest, Previous, Sample, flat_clock, ◌&&◌, nat_le, slice_get, if◌then◌else◌}
-use Words.{clock_or, declared_clock}
-use mathlib.Core.Former.{Count}
-use Rattle.lb_static.specs.ResolvedTerms.{Counts, row_of, is_unhidden, are_unhidden}
+use Words.{ApplyBinary, ApplyUnary, Array', ArrayIterator, Arrow', AtMostOne', Bad, Binary'}
+use Words.{BinaryOperator, Boolean, Call', Context, Current', Cursor, DataType, Emitted, EmittedAll}
+use Words.{Every, Expr, Exprs, Fby', Fill, FirstThen, FlatClock, Group', History, If', Index'}
+use Words.{Instance, Integer, Iterate, IterateNode', IterateSymbol', Join', Latest, Layout, List}
+use Words.{Map, Name, Nor', Occurrence, Path, PlacedEmitted, Pre', Previous, Program, Red}
+use Words.{Replicate', Row_of-Term, Sample, Site, Slice', Some, State, Static, StaticId, Symbol}
+use Words.{Term, Texts, Unary', Value, VariableId, When', [], add, all_types, and_first, and_second}
+use Words.{ap, append-nil, ap₂, are_within, arith, call, call_clocks, call_count, call_site}
+use Words.{chained, choose, clock_or, constant, copies, data_type, data_types, declared_clock, drop}
+use Words.{drop-append_seam, each, either_or, element_count, emit, emit_all, emit_at_most_one}
+use Words.{emit_each, emit_name, emit_nor, emit_row, emit_symbol, emit_term, end_of-Term, expr_of}
+use Words.{false, first_of_all, first_value, flat_clock, gives, heads_same, if◌then◌else◌}
+use Words.{index_type, inl, inr, int, is_arithmetic, is_call, is_logical, is_static, is_variable}
+use Words.{is_within, iterate, iterator_types, joined, joins, length, literal, map, memory}
+use Words.{more_of-Term, name_at, named, named_value, nat_le, next_call, next_term, node_named}
+use Words.{node_sites, number, occurrences, occurrences_each, occurrences_in, only, operator_types}
+use Words.{own_site, pairs, part_count, picked, placed, pos, refl, site_at, sites, sites_in}
+use Words.{slice_get, slice_type, static_at, static_count, subst, suc, sym, symbol, symbol_types}
+use Words.{take, take-append-le, take_all, true, truth, variables, zip2, ℕ, ◌&&◌, ◌*◌, ◌++◌, ◌+◌}
+use Words.{◌-◌, ◌<◌, ◌>>=◌, ◌∙◌, ◌∷◌, ◌≡◌, ◌⊎◌}
+use Rattle.lb_check.{proofs.programs.OccurrenceParts.{never_as_many, one_less}, specs.Clocks.Clock}
+use Rattle.{lb_check.specs.Clocks.clock_of, lb_expand.proofs.frames.TermPlaces.{Along, IsContext}}
+use Rattle.lb_expand.proofs.frames.TermPlaces.{IsValue, along_every, along_first, along_second}
+use Rattle.lb_expand.proofs.frames.TermPlaces.{past, past_call, past_leaf, past_none, then_operand}
+use Rattle.lb_expand.proofs.frames.TermPlaces.{with_branches, with_operand, with_operands}
+use Rattle.lb_expand.proofs.numbering.ReceivedInputs.{AreFed, call_given, call_received}
+use Rattle.lb_expand.proofs.numbering.ReceivedInputs.{iterator_given, iterator_received}
+use Rattle.lb_expand.proofs.widths.{FoundWidths.all_as_many, PlacedCalls.called_wide}
+use Rattle.lb_expand.proofs.widths.{PlacedCalls.{fed_by_types, iterated_wide}, TypeFacts.bound}
+use Rattle.lb_expand.proofs.widths.TypeFacts.{indexed, one, sliced, symbolic}
+use Rattle.lb_expand.proofs.widths.Widths.{AreVariablesWide, IsOccurrenceWide, all_wide, number_is}
+use Rattle.lb_static.specs.ResolvedTerms.{Counts, are_unhidden, is_unhidden, row_of}
 use Rattle.lb_static.specs.declared.resolved.Term.{Literal, Truth, Variable}
-use Rattle.lb_check.{specs.Clocks.{Clock, clock_of}, proofs.programs.OccurrenceParts.never_as_many}
-use Rattle.lb_check.proofs.programs.OccurrenceParts.{one_less}
-use Rattle.lb_expand.proofs.frames.TermPlaces.{IsContext, IsValue, Along, along_every, along_first}
-use Rattle.lb_expand.proofs.frames.TermPlaces.{along_second, past, past_call, past_leaf, past_none}
-use Rattle.lb_expand.proofs.frames.TermPlaces.{then_operand, with_branches, with_operand}
-use Rattle.lb_expand.proofs.{frames.TermPlaces.with_operands, numbering.ReceivedInputs.AreFed}
-use Rattle.lb_expand.proofs.numbering.ReceivedInputs.{call_given, call_received, iterator_given}
-use Rattle.lb_expand.proofs.numbering.ReceivedInputs.{iterator_received}
-use Rattle.lb_expand.proofs.widths.{FoundWidths.all_as_many, PlacedCalls.fed_by_types}
-use Rattle.lb_expand.proofs.widths.{PlacedCalls.{called_wide, iterated_wide}, TypeFacts.bound}
-use Rattle.lb_expand.proofs.widths.TypeFacts.{symbolic, indexed, one, sliced}
-use Rattle.lb_expand.proofs.widths.Widths.{AreVariablesWide, IsOccurrenceWide, number_is, all_wide}
+use mathlib.Core.Former.{Count}
 use Rattle.lb_syntax.specs.Tree as tree
 use Rattle.lb_check.specs.Occurrences as text
 
@@ -602,8 +601,7 @@ module _ (Y : Layout) (P : Program) (H : History) (here : Instance) (texts : Tex
         ≡ placed (past at (occurrences_each P here.node ks at.call (row_of texts row))
         (length (sites_in (row_of texts row))))
         (in_one (emit_each Y P here ks at.call s (row_of texts row)))
-    each_is ks at s end_of-Term ts w u typed long h =
-        ap (λ p. placed p (gives s [])) (past_none at)
+    each_is ks at s end_of-Term ts w u typed long h = ap (λ p. placed p (gives s [])) (past_none at)
     each_is [] at s (more_of-Term e rest) ts w u typed long h =
         let i = first_of_all P here (expr_of texts e) (row_of texts rest) ts typed in
         absurd (never_as_many i.rest (long ∙ ap length i.all))

@@ -1,20 +1,20 @@
 -- The code that expands resolved terms: places, rows, and term after term.
 use Rattle.lb_expand.proofs.Words
-use Words.{◌≤◌, List, [], ◌∷◌, arith, Term, Value, Group', Unary', Binary', If', Arrow', Fby', Pre'}
-use Words.{Current', When', Replicate', Index', Slice', Join', Array', AtMostOne', Nor', Call'}
-use Words.{IterateNode', IterateSymbol', Row_of-Term, end_of-Term, more_of-Term, State, Context}
-use Words.{Cursor, next_term, next_call, emit_term, emit_row, emit_list, ◌≡◌, ◌<◌, ℕ, ◌+◌, length}
-use Words.{drop, get_or, Vec, Box, Global, refl, sym, ap, ◌∙◌, inl, inr, drop_more, length-append}
-use Words.{append_assoc, append-nil, IterateNode, IterateSymbol, items-the_row-Term}
-use Words.{items_hidden-the_row-Term-0, Emitted, gives, PlacedEmitted, placed, row_place, choose}
-use Words.{with_one, with_two, with_all, onto, IsPair, IsRow, row_in, ◌^◌, ap₂, subst}
-use Words.{drop-append_seam, Scalar, Boolean, StaticId, VariableId, add, literal, constant}
-use Words.{HasPlaces, HasRoom, stacked, FlatClock, Constant, above, on_top, pushed, Bool}
-use Rattle.lb_static.specs.{TermForms.IsSingle, declared.resolved.Term.{Literal, Truth, Variable}}
-use Rattle.lb_static.specs.declared.resolved.Term.{If, Array, AtMostOne, Nor, Call, Group}
-use Rattle.lb_expand.proofs.emission.EmittedStacks.{on_top_onto}
-use Rattle.lb_expand.proofs.emission.TermSteps.{next_grows, list_grows, one_grows, two_grows}
-use Rattle.lb_expand.proofs.emission.TermSteps.{all_grows, add_grows, next_of_add}
+use Words.{Array', Arrow', AtMostOne', Binary', Bool, Boolean, Box, Call', Constant, Context}
+use Words.{Current', Cursor, Emitted, Fby', FlatClock, Global, Group', HasPlaces, HasRoom, If'}
+use Words.{Index', IsPair, IsRow, IterateNode, IterateNode', IterateSymbol, IterateSymbol', Join'}
+use Words.{List, Nor', PlacedEmitted, Pre', Replicate', Row_of-Term, Scalar, Slice', State}
+use Words.{StaticId, Term, Unary', Value, VariableId, Vec, When', [], above, add, ap, append-nil}
+use Words.{append_assoc, ap₂, arith, choose, constant, drop, drop-append_seam, drop_more, emit_list}
+use Words.{emit_row, emit_term, end_of-Term, get_or, gives, inl, inr, items-the_row-Term}
+use Words.{items_hidden-the_row-Term-0, length, length-append, literal, more_of-Term, next_call}
+use Words.{next_term, on_top, onto, placed, pushed, refl, row_in, row_place, stacked, subst, sym}
+use Words.{with_all, with_one, with_two, ℕ, ◌+◌, ◌<◌, ◌^◌, ◌∙◌, ◌∷◌, ◌≡◌, ◌≤◌}
+use Rattle.lb_expand.proofs.emission.{EmittedStacks.on_top_onto, TermSteps.Grows}
+use Rattle.lb_expand.proofs.emission.TermSteps.{add_grows, all_step, grows, list_step, next_grows}
+use Rattle.lb_expand.proofs.emission.TermSteps.{next_of_add, one_step, two_step}
+use Rattle.lb_static.specs.{TermForms.IsSingle, declared.resolved.Term.{Array, AtMostOne, Call}}
+use Rattle.lb_static.specs.declared.resolved.Term.{Group, If, Literal, Nor, Truth, Variable}
 
 -- The place after a term is not before the term. So a bound on the last place bounds all places.
 
@@ -76,12 +76,10 @@ mutual
       after_two at z.place _ (place_grows ctx _ s c)
       (then_later z.place x.place _ (place_grows ctx _ z.emitted.state a)
       (place_grows ctx _ x.emitted.state b))
-  place_grows ctx at s (Array' arity all) =
-      then_later at _ _ (one_later at) (row_later ctx _ s all)
+  place_grows ctx at s (Array' arity all) = then_later at _ _ (one_later at) (row_later ctx _ s all)
   place_grows ctx at s (AtMostOne' arity all) =
       then_later at _ _ (one_later at) (row_later ctx _ s all)
-  place_grows ctx at s (Nor' arity all) =
-      then_later at _ _ (one_later at) (row_later ctx _ s all)
+  place_grows ctx at s (Nor' arity all) = then_later at _ _ (one_later at) (row_later ctx _ s all)
   place_grows ctx at s (Call' c arity all) =
       then_later at _ _ (call_later at) (row_later ctx _ s all)
   place_grows ctx at s (IterateNode' it c arity all) =
@@ -258,7 +256,7 @@ module _ (ctx : Context) (at : Cursor) (s : State) {t : Term} where
   pub single_room : {e : Box Term Global} → IsSingle t e → HasRoom (emit_term ctx at s t) →
       HasRoom (emit_term ctx (next_term at) s e.value)
   single_room is h =
-      room_before _ _ (one_grows ctx at t _) (same_place _)
+      room_before _ _ (one_step Grows grows ctx at t _) (same_place _)
       (subst HasRoom (emitted_single ctx at s t _ _ is refl) h)
 
   pub single_word : {e : Box Term Global} → IsSingle t e → HasRoom (emit_term ctx at s t) →
@@ -271,7 +269,7 @@ module _ (ctx : Context) (at : Cursor) (s : State) {t : Term} where
       (let x = emit_term ctx (next_term at) s a.value in
       HasRoom x × HasRoom (emit_term ctx x.place x.emitted.state b.value))
   pair_room is h =
-      let second = room_before _ _ (two_grows ctx at t _ _) (same_place _)
+      let second = room_before _ _ (two_step Grows grows ctx at t _ _) (same_place _)
       (subst HasRoom (emitted_pair ctx at s t _ _ _ _ is refl refl) h) in
       (room_before _ _ (next_grows ctx _ _ _) (place_grows ctx _ _ _) second, second)
 
@@ -285,7 +283,7 @@ module _ (ctx : Context) (at : Cursor) (s : State) {t : Term} where
   pub row_room : (es : Vec Term Global) → IsRow t es → HasRoom (emit_term ctx at s t) →
       HasRoom (emit_list ctx (row_place at t) s es.items)
   row_room es is h =
-      room_before _ _ (all_grows ctx at t _) (same_place _) (subst HasRoom
+      room_before _ _ (all_step Grows grows ctx at t _) (same_place _) (subst HasRoom
       (emitted_all ctx at s t es _ _ is refl refl) h)
 
   pub row_word : (es : Vec Term Global) → IsRow t es → HasRoom (emit_term ctx at s t) →
@@ -300,23 +298,16 @@ module _ (ctx : Context) (at : Cursor) (s : State) {t : Term} {c a b : Box Term 
   first_of_three = emit_term ctx (next_term at) s c.value
 
   abbrev second_of_three : PlacedEmitted
-  second_of_three =
-      emit_term ctx first_of_three.place first_of_three.emitted.state a.value
+  second_of_three = emit_term ctx first_of_three.place first_of_three.emitted.state a.value
 
   abbrev third_of_three : PlacedEmitted
-  third_of_three =
-      emit_term ctx second_of_three.place second_of_three.emitted.state b.value
+  third_of_three = emit_term ctx second_of_three.place second_of_three.emitted.state b.value
 
-  if_is : emit_term ctx at s t
+  pub if_is : emit_term ctx at s t
       ≡ placed third_of_three.place (choose (ctx.clock at.term) first_of_three.emitted.found
       second_of_three.emitted.found third_of_three.emitted)
   if_is =
       cc (emitted_if ctx at s c a b first_of_three second_of_three third_of_three refl refl refl)
-
-  pub if_word : HasRoom (emit_term ctx at s t) →
-      (choose (ctx.clock at.term) first_of_three.emitted.found second_of_three.emitted.found
-      third_of_three.emitted).state.next < 2 ^ 32
-  if_word h = (subst HasRoom if_is h).elements
 
   pub third_room : HasRoom (emit_term ctx at s t) → HasRoom third_of_three
   third_room h = room_before _ _ (add_grows _ _ _) (same_place _) (subst HasRoom if_is h)
@@ -372,7 +363,8 @@ module _ {below : List ℕ} {r : PlacedEmitted} {to : Cursor} {x : Emitted}
   -- a word on the top of the stack is the word on what `r` emitted
   pub left_top : (f : Emitted → Emitted) {n : ℕ} → n ≡ length below →
       on_top n f x ≡ onto below (f r.emitted)
-  left_top f size = cc (left_emitted, on_top_onto f below r.emitted)
+  left_top f size =
+      cc (left_emitted, on_top_onto f below r.emitted)
 
 module _ (ctx : Context) (at : Cursor) (s : State) {t : Term} {below : List ℕ} {to : Cursor}
     {mid new : Emitted} {n : ℕ} where
@@ -411,7 +403,7 @@ pub listed_room :
     HasRoom (emit_term ctx at x.state (get_or es i d))
 listed_room ctx at x es i d lt h =
     let g = subst HasRoom (listed_more ctx at x es i d lt) h in
-    room_before _ _ (list_grows ctx _ _ _) (list_later ctx _ _ _) g
+    room_before _ _ (list_step Grows grows ctx _ _ _) (list_later ctx _ _ _) g
 
 -- ## Terms without parts, and parentheses
 

@@ -81,8 +81,7 @@ module _ (Y : Layout) where
       let t : Target = record { place = i; clock = k } in t) in
       let left = length-map (Y.places p d.name) (column [] []) in
       let right = length-map is (column [] []) in
-      let wide : length (targets Y n p d.name) ≡ length is =
-      one ∙ (sym left ∙ (h.0 ∙ right)) in
+      let wide : length (targets Y n p d.name) ≡ length is = one ∙ (sym left ∙ (h.0 ∙ right)) in
       copied_append (targets Y n p d.name) (inputs_at n p ds) is (places_at q es) wide
       ∙ ap (λ (qs : List FlatEquation). copied (targets Y n p d.name) is ++ qs)
       (received_is n p q ds es h.1)
@@ -103,10 +102,6 @@ module _ (r : Reached) (t : Table) (b : Bool) where
       ≡ (if c then option_map (start_of j) (node_at r t x) else start_from r t b (suc j) is)
   unfolding start_from
   step_start j x is c e = cc
-
-  end_start : (j : ℕ) → start_from r t b j [] ≡ None
-  unfolding start_from
-  end_start j = refl
 
   first_here : (j : ℕ) (x : row.Instance) (is : List row.Instance) →
       is_start b x.origin ≡ true → IsFirst j (x ∷ is)
@@ -150,7 +145,8 @@ module _ (r : Reached) (t : Table) (b : Bool) where
       (j : ℕ) (is : List row.Instance) →
       ((k : ℕ) (i : row.Instance) → slice_get is k ≡ Some i → is_start b i.origin ≡ true → ⊥) →
       start_from r t b j is ≡ None
-  none_start j [] not = end_start j
+  unfolding start_from
+  none_start j [] not = refl
   none_start j (x ∷ is) not =
       none_step j x is (is_start b x.origin) refl (not 0 x refl)
       (none_start (suc j) is (λ k i e h. not (suc k) i e h))
@@ -307,8 +303,7 @@ module _ (P : Program) (r : Reached) (t : Table) (reached : IsReached P r)
           ap (variable_targets (cs k)) zero_q
           ∙ ap₂ targets_of (own.declared q d at) (own.places q d at))
 
-      outputs_are :
-          places_from (cs k) is.node.inputs is.node.outputs ≡ own_places here.node.outputs
+      outputs_are : places_from (cs k) is.node.inputs is.node.outputs ≡ own_places here.node.outputs
       outputs_are =
           let ins = here.node.inputs in
           let outs = here.node.outputs in
@@ -336,8 +331,7 @@ module _ (P : Program) (r : Reached) (t : Table) (reached : IsReached P r)
 
     -- ## The instances that start
 
-    given_is :
-        given_at cs (start_in r t false) ≡ given_inputs (layout P) (instance_at P Root)
+    given_is : given_at cs (start_in r t false) ≡ given_inputs (layout P) (instance_at P Root)
     given_is = by (instance_at P Root) refl
       where
         by : (o : Option Instance) → instance_at P Root ≡ o →
@@ -477,8 +471,7 @@ module _ (P : Program) (r : Reached) (t : Table) (reached : IsReached P r)
           let number : k ≡ 0 + k = omega arith in
           rw (← number) (subst (IsRow P r t table k i) same shown.1)
 
-      clocks_are :
-          row_clocks r t cs 0 t.instances.items ≡ clock_places (layout P) (instances P)
+      clocks_are : row_clocks r t cs 0 t.instances.items ≡ clock_places (layout P) (instances P)
       clocks_are = clocks_from 0 t.instances.items (instances P) (rows_many P r t table) each_row
 
       -- ## The whole program

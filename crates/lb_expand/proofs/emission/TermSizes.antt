@@ -1,17 +1,15 @@
 -- Each operand of a term is smaller than the term. So the walk over a term ends.
-use Rattle.lb_expand.proofs.Words.{◌≡◌, ◌<◌, arith, inl, inr, Box, Vec, Global, Term, IsPair, IsRow}
+use Rattle.lb_expand.proofs.Words.{Box, Global, IsPair, IsRow, Term, Vec, arith, inl, inr, ◌<◌, ◌≡◌}
+use Rattle.lb_static.{proofs.resolved.Term.TheLaws.the_size, specs.TermForms.IsSingle}
+use Rattle.lb_static.specs.declared.resolved.Term.{Group, If, TheViews.{sized-Array, sized-Arrow}}
+use Rattle.lb_static.specs.declared.resolved.Term.TheViews.{sized-AtMostOne, sized-Binary}
+use Rattle.lb_static.specs.declared.resolved.Term.TheViews.{sized-Call, sized-Current, sized-Fby}
+use Rattle.lb_static.specs.declared.resolved.Term.TheViews.{sized-Group, sized-If, sized-Index}
+use Rattle.lb_static.specs.declared.resolved.Term.TheViews.{sized-IterateNode, sized-IterateSymbol}
+use Rattle.lb_static.specs.declared.resolved.Term.TheViews.{sized-Join, sized-Nor, sized-Pre}
+use Rattle.lb_static.specs.declared.resolved.Term.TheViews.{sized-Replicate, sized-Slice}
+use Rattle.lb_static.specs.declared.resolved.Term.TheViews.{sized-Unary, sized-When}
 use denote.Param.Weighed.{most}
-use Rattle.lb_static.proofs.resolved.Term.TheLaws.{the_size}
-use Rattle.lb_static.specs.TermForms.{IsSingle}
-use Rattle.lb_static.specs.declared.resolved.Term.{If, Group}
-use Rattle.lb_static.specs.declared.resolved.Term.TheViews.{sized-Group, sized-Unary, sized-Pre}
-use Rattle.lb_static.specs.declared.resolved.Term.TheViews.{sized-Current, sized-When}
-use Rattle.lb_static.specs.declared.resolved.Term.TheViews.{sized-Replicate, sized-Index}
-use Rattle.lb_static.specs.declared.resolved.Term.TheViews.{sized-Slice, sized-Binary, sized-Arrow}
-use Rattle.lb_static.specs.declared.resolved.Term.TheViews.{sized-Fby, sized-Join, sized-If}
-use Rattle.lb_static.specs.declared.resolved.Term.TheViews.{sized-Array, sized-AtMostOne, sized-Nor}
-use Rattle.lb_static.specs.declared.resolved.Term.TheViews.{sized-Call, sized-IterateNode}
-use Rattle.lb_static.specs.declared.resolved.Term.TheViews.{sized-IterateSymbol}
 
 module _ {t : Term} where
   pub group_smaller : {e : Box Term Global} → t ≡ Group e → the_size e.value < the_size t
@@ -30,26 +28,22 @@ module _ {t : Term} where
   single_smaller {e} (inr (inr (inr (inr (inr (inr (i, j, is))))))) =
       rw is (omega (arith, sized-Slice e i j))
 
-  pub first_smaller : {a b : Box Term Global} → IsPair t a b → the_size a.value < the_size t
-  first_smaller {a} {b} (inl (op, is)) = rw is (omega (arith, sized-Binary op a b))
-  first_smaller {a} {b} (inr (inl is)) = rw is (omega (arith, sized-Arrow a b))
-  first_smaller {a} {b} (inr (inr (inl is))) = rw is (omega (arith, sized-Fby a b))
-  first_smaller {a} {b} (inr (inr (inr is))) = rw is (omega (arith, sized-Join a b))
+  pub pair_smaller : {a b : Box Term Global} → IsPair t a b →
+      (the_size a.value < the_size t) × (the_size b.value < the_size t)
+  pair_smaller {a} {b} (inl (op, is)) =
+      let s = sized-Binary op a b in rw is (omega (arith, s), omega (arith, s))
+  pair_smaller {a} {b} (inr (inl is)) =
+      let s = sized-Arrow a b in rw is (omega (arith, s), omega (arith, s))
+  pair_smaller {a} {b} (inr (inr (inl is))) =
+      let s = sized-Fby a b in rw is (omega (arith, s), omega (arith, s))
+  pair_smaller {a} {b} (inr (inr (inr is))) =
+      let s = sized-Join a b in rw is (omega (arith, s), omega (arith, s))
 
-  pub second_smaller : {a b : Box Term Global} → IsPair t a b → the_size b.value < the_size t
-  second_smaller {a} {b} (inl (op, is)) = rw is (omega (arith, sized-Binary op a b))
-  second_smaller {a} {b} (inr (inl is)) = rw is (omega (arith, sized-Arrow a b))
-  second_smaller {a} {b} (inr (inr (inl is))) = rw is (omega (arith, sized-Fby a b))
-  second_smaller {a} {b} (inr (inr (inr is))) = rw is (omega (arith, sized-Join a b))
-
-  pub condition_smaller : {c a b : Box Term Global} → t ≡ If c a b → the_size c.value < the_size t
-  condition_smaller {c} {a} {b} is = rw is (omega (arith, sized-If c a b))
-
-  pub then_smaller : {c a b : Box Term Global} → t ≡ If c a b → the_size a.value < the_size t
-  then_smaller {c} {a} {b} is = rw is (omega (arith, sized-If c a b))
-
-  pub else_smaller : {c a b : Box Term Global} → t ≡ If c a b → the_size b.value < the_size t
-  else_smaller {c} {a} {b} is = rw is (omega (arith, sized-If c a b))
+  pub if_smaller : {c a b : Box Term Global} → t ≡ If c a b →
+      (the_size c.value < the_size t) × (the_size a.value < the_size t)
+      × (the_size b.value < the_size t)
+  if_smaller {c} {a} {b} is =
+      let s = sized-If c a b in rw is (omega (arith, s), omega (arith, s), omega (arith, s))
 
   -- the largest term of a row is smaller than the term whose row it is
   pub row_smaller : (es : Vec Term Global) → IsRow t es → most the_size es.items < the_size t

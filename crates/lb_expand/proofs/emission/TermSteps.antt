@@ -1,17 +1,17 @@
 -- Relations of states that hold along a whole term: the equations that it adds, the numbers that it
 -- takes.
 use Rattle.lb_expand.proofs.Words
-use Words.{ℕ, List, [], ◌∷◌, BinaryOperator, ArrayIterator, Map, Red, Fill, ResolvedStatement, Term}
-use Words.{Value, Group', Unary', Binary', If', Arrow', Fby', Pre', Current', When', Replicate'}
-use Words.{Index', Slice', Join', Array', AtMostOne', Nor', Call', IterateNode', IterateSymbol'}
-use Words.{Row_of-Term, end_of-Term, more_of-Term, first_value, FlatClock, Operation, Previous}
-use Words.{State, Emitted, keep, assert, Context, Cursor, first_place, next_term, memory, red}
-use Words.{symbol, with_one, with_two, with_all, emit_term, emit_row, emit_list, emit_statement}
-use Words.{emit_statements, emit_rows, ◌≡◌, suc, ◌+◌, length, arith, refl, length-append}
-use Words.{FlatEquation, numbered, after, add, joins, before_instances, ◌≤◌}
+use Words.{Array', ArrayIterator, Arrow', AtMostOne', Binary', BinaryOperator, Call', Context}
+use Words.{Current', Cursor, Emitted, Fby', Fill, FlatClock, Group', If', Index', IterateNode'}
+use Words.{IterateSymbol', Join', List, Map, Nor', Operation, Pre', Previous, Red, Replicate'}
+use Words.{ResolvedStatement, Row_of-Term, Slice', State, Term, Unary', Value, When', [], add}
+use Words.{after, arith, assert, before_instances, emit_list, emit_row, emit_rows, emit_statement}
+use Words.{emit_statements, emit_term, end_of-Term, first_place, first_value, joins, keep, length}
+use Words.{length-append, memory, more_of-Term, next_term, numbered, red, refl, suc, symbol}
+use Words.{with_all, with_one, with_two, ℕ, ◌+◌, ◌∷◌, ◌≡◌, ◌≤◌}
+use Rattle.lb_expand.proofs.emission.EmissionSteps.{Any, IsStep, at_most_one_step, chained_step}
+use Rattle.lb_expand.proofs.{emission.EmissionSteps.nor_step, solutions.Closing.after_is}
 use Rattle.lb_static.specs.declared.resolved.Term.{Literal, Truth, Variable}
-use Rattle.lb_expand.proofs.emission.EmissionSteps.{IsStep, Any, chained_step, nor_step}
-use Rattle.lb_expand.proofs.{emission.EmissionSteps.at_most_one_step, solutions.Closing.after_is}
 use Rattle.lb_static.specs.declared.resolved.ResolvedStatement.TheVariants as statement
 
 -- A relation of states that every word of emission keeps also holds from before to after the
@@ -23,8 +23,7 @@ module _ (R : State → State → Type 0) (w : IsStep Any R) where
 
   -- ## What is done with operands
 
-  memory_step : (k : FlatClock) (f : ℕ → Operation) (x : Emitted) →
-      R x.state (memory k f x).state
+  memory_step : (k : FlatClock) (f : ℕ → Operation) (x : Emitted) → R x.state (memory k f x).state
   memory_step k f x = both x.state _ _ (w.keeps x) (w.adding.adds k (keep x).state _)
 
   red_step : (k : FlatClock) (op : BinaryOperator) (s : State) (is : List ℕ) →
@@ -100,8 +99,7 @@ module _ (R : State → State → Type 0) (w : IsStep Any R) where
     term_step ctx at s (Variable x) = w.adding.none s
     term_step ctx at s (Value i) = w.adding.adds _ s _
     term_step ctx at s (Group' p e) = term_step ctx at s e
-    term_step ctx at s (Unary' op p a) =
-        one_more ctx at s (Unary' op p a) a (term_step ctx _ s a)
+    term_step ctx at s (Unary' op p a) = one_more ctx at s (Unary' op p a) a (term_step ctx _ s a)
     term_step ctx at s (Pre' p a) = one_more ctx at s (Pre' p a) a (term_step ctx _ s a)
     term_step ctx at s (Current' p a) = one_more ctx at s (Current' p a) a (term_step ctx _ s a)
     term_step ctx at s (When' p a c sign) =
@@ -109,8 +107,7 @@ module _ (R : State → State → Type 0) (w : IsStep Any R) where
     term_step ctx at s (Replicate' p a n) =
         one_more ctx at s (Replicate' p a n) a (term_step ctx _ s a)
     term_step ctx at s (Index' p a i) = one_more ctx at s (Index' p a i) a (term_step ctx _ s a)
-    term_step ctx at s (Slice' p a i j) =
-        one_more ctx at s (Slice' p a i j) a (term_step ctx _ s a)
+    term_step ctx at s (Slice' p a i j) = one_more ctx at s (Slice' p a i j) a (term_step ctx _ s a)
     term_step ctx at s (Binary' op p a q b) =
         two_more ctx at s (Binary' op p a q b) a b (term_step ctx _ s a) (term_step ctx _ _ b)
     term_step ctx at s (Arrow' p a q b) =
@@ -158,8 +155,7 @@ module _ (R : State → State → Type 0) (w : IsStep Any R) where
     unfolding emit_statement
     statement_step ctx at s (statement.Equation lefts e) =
         both s _ _ (term_step ctx at s e) (w.joining _ _ [] tt)
-    statement_step ctx at s (statement.Assertion e) =
-        both s _ _ (term_step ctx at s e) (asserts _)
+    statement_step ctx at s (statement.Assertion e) = both s _ _ (term_step ctx at s e) (asserts _)
 
     pub statements_step : (ctx : Context) (at : Cursor) (s : State) (xs : List ResolvedStatement) →
         R s (emit_statements ctx at s xs).state
@@ -184,48 +180,33 @@ module _ (R : State → State → Type 0) (w : IsStep Any R) where
 abbrev pub Adds : State → State → Type 0
 Adds s t = t.next + length s.equations ≡ s.next + length t.equations
 
-counted : (i : ℕ) (k : FlatClock) (os : List Operation) →
-    after i os ≡ i + length (numbered i k os)
+counted : (i : ℕ) (k : FlatClock) (os : List Operation) → after i os ≡ i + length (numbered i k os)
 counted i k [] = omega arith
 counted i k (o ∷ os) =
     let e = counted (suc i) k os in omega (arith, e)
 
-add_adds : (k : FlatClock) (s : State) (os : List Operation) → Adds s (add k s os).state
-unfolding add
-add_adds k s os =
-    let size = length-append s.equations (numbered s.next k os) in
-    let e = counted s.next k os in omega (arith, size, e)
-
-keep_adds : (x : Emitted) → Adds x.state (keep x).state
-unfolding keep
-keep_adds x = refl
-
-joins_adds : (s : State) (qs : List FlatEquation) (is : List ℕ) → Adds s (joins s qs is).state
-unfolding joins
-joins_adds s qs is = refl
-
-assert_adds : (x : Emitted) → Adds x.state (assert x)
-unfolding assert
-assert_adds x = refl
-
 adding : IsStep Any Adds
+unfolding add keep joins
 adding = record {
   adding = record {
     none = λ s. refl;
     both = λ s t u a b. omega (arith, a, b);
-    adds = add_adds;
+    adds = λ k s os.
+        let size = length-append s.equations (numbered s.next k os) in
+        let e = counted s.next k os in omega (arith, size, e);
   };
-  keeps = keep_adds;
-  joining = λ s qs is q. joins_adds s qs is;
+  keeps = λ x. refl;
+  joining = λ s qs is q. refl;
 }
 
 -- after the elements of variables there is one element for each equation
 pub next_of_rows : (count : ℕ) (rows : List (Context × List ResolvedStatement)) →
     (emit_rows (before_instances count) rows).next
     ≡ count + length (emit_rows (before_instances count) rows).equations
+unfolding assert
 next_of_rows count rows =
     let e : Adds (before_instances count) (emit_rows (before_instances count) rows) =
-    rows_step Adds adding assert_adds (before_instances count) rows in omega (arith, e)
+    rows_step Adds adding (λ x. refl) (before_instances count) rows in omega (arith, e)
 
 -- Emission takes only new numbers: the next free element never goes down.
 
@@ -237,27 +218,22 @@ pub next_of_add : (k : FlatClock) (s : State) (os : List Operation) →
 unfolding add
 next_of_add k s os = after_is s.next os
 
-pub add_grows : (k : FlatClock) (s : State) (os : List Operation) →
-    s.next ≤ (add k s os).state.next
+pub add_grows : (k : FlatClock) (s : State) (os : List Operation) → s.next ≤ (add k s os).state.next
 add_grows k s os = let e = next_of_add k s os in omega (arith, e)
 
 pub next_of_keep : (x : Emitted) → (keep x).state.next ≡ x.state.next
 unfolding keep
 next_of_keep x = refl
 
-joins_grows : (s : State) (qs : List FlatEquation) (is : List ℕ) →
-    s.next ≤ (joins s qs is).state.next
-unfolding joins
-joins_grows s qs is = omega arith
-
-assert_grows : (x : Emitted) → x.state.next ≤ (assert x).next
+pub assert_grows : (x : Emitted) → x.state.next ≤ (assert x).next
 unfolding assert
 assert_grows x = omega arith
 
-abbrev Grows : State → State → Type 0
+abbrev pub Grows : State → State → Type 0
 Grows s t = s.next ≤ t.next
 
-grows : IsStep Any Grows
+pub grows : IsStep Any Grows
+unfolding joins
 grows = record {
   adding = record {
     none = λ s. omega arith;
@@ -265,40 +241,20 @@ grows = record {
     adds = add_grows;
   };
   keeps = λ x. let e = next_of_keep x in omega (arith, e);
-  joining = λ s qs is q. joins_grows s qs is;
+  joining = λ s qs is q. omega arith;
 }
 
 -- ## Terms
 
-pub one_grows : (ctx : Context) (at : Cursor) (e : Term) (x : Emitted) →
-    x.state.next ≤ (with_one ctx at e x).state.next
-one_grows = one_step Grows grows
-
-pub two_grows : (ctx : Context) (at : Cursor) (e : Term) (xs : List ℕ) (y : Emitted) →
-    y.state.next ≤ (with_two ctx at e xs y).state.next
-two_grows = two_step Grows grows
-
-pub all_grows : (ctx : Context) (at : Cursor) (e : Term) (r : Emitted) →
-    r.state.next ≤ (with_all ctx at e r).state.next
-all_grows = all_step Grows grows
-
 pub next_grows : (ctx : Context) (at : Cursor) (s : State) (e : Term) →
     s.next ≤ (emit_term ctx at s e).emitted.state.next
 next_grows = term_step Grows grows
-
-pub list_grows : (ctx : Context) (at : Cursor) (s : State) (es : List Term) →
-    s.next ≤ (emit_list ctx at s es).emitted.state.next
-list_grows = list_step Grows grows
 
 -- ## Statements and rows
 
 pub statement_grows : (ctx : Context) (at : Cursor) (s : State) (x : ResolvedStatement) →
     s.next ≤ (emit_statement ctx at s x).state.next
 statement_grows = statement_step Grows grows assert_grows
-
-pub statements_grow : (ctx : Context) (at : Cursor) (s : State) (xs : List ResolvedStatement) →
-    s.next ≤ (emit_statements ctx at s xs).state.next
-statements_grow = statements_step Grows grows assert_grows
 
 pub rows_grow : (s : State) (rows : List (Context × List ResolvedStatement)) →
     s.next ≤ (emit_rows s rows).next

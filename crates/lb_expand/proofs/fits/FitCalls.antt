@@ -1,29 +1,27 @@
 -- The inputs of what is called are copies that fit, and what it gives is on the clock of the call.
 use Rattle.lb_expand.proofs.Words
-use Words.{◌≡◌, ℕ, zero, suc, ◌+◌, ◌-◌, ◌<◌, true, ◌&&◌, Option, Some, None, List, [], ◌∷◌, ◌++◌}
-use Words.{map, flat_map, refl, sym, ap, ◌∙◌, subst, arith, range_with_len, same_Some}
-use Words.{ArrayIterator, Map, Red, Fill, Kind, Every, part, all_some, where_true, listed, Name}
-use Words.{Static, Node_named, Exprs, Declaration, Node, heads_same, tails_same, and_first}
-use Words.{and_second, Program, Instance, Child, node_named, DataType, is_type, are_types}
-use Words.{variable_type, array_of, operator_types, iterator_types, declared_clock, outputs_of}
-use Words.{gathered, last_of, iterated, accumulated, iterator_inputs, truly, FlatClock, Layout}
-use Words.{flat_clock, targets, copied, received, call_copies, iterator_copies}
-use Rattle.{lb_check.specs.Clocks.Clock, lb_flat.proofs.lists.Lists.{Every-append, Every-first}}
-use Rattle.lb_flat.proofs.lists.Lists.{Every-second, Every-take, Every-drop, Every-of_pieces}
-use Rattle.{lb_flat.proofs.lists.Lists.Every-of_range, lb_expand.proofs.fits.FitWords.Sorts}
-use Rattle.lb_expand.proofs.fits.FitWords.{AreOn, IsFit, AllFit, copy_fit, IsVariableOn}
-use Rattle.lb_expand.proofs.fits.FitWords.{AreVariablesOn, IsCalleeOn, seen_clock, IsCallOn}
-use Rattle.lb_expand.proofs.fits.{FitWords.IsIteratorOn, KindFacts.{type_kind, array_kind}}
-use Rattle.lb_expand.proofs.{fits.KindFacts.variable_kind, widths.TypeFacts.{bound, each}}
-use Rattle.lb_expand.proofs.widths.TypeFacts.{types_first, types_missing, types_left}
+use Words.{ArrayIterator, Child, DataType, Declaration, Every, Exprs, Fill, FlatClock, Instance}
+use Words.{Kind, Layout, List, Map, Name, Node, Node_named, None, Option, Program, Red, Some}
+use Words.{Static, [], accumulated, all_some, and_first, and_second, ap, are_types, arith, array_of}
+use Words.{call_copies, copied, declared_clock, flat_clock, flat_map, gathered, heads_same, is_type}
+use Words.{iterated, iterator_copies, iterator_inputs, iterator_types, last_of, listed, map}
+use Words.{node_named, operator_types, outputs_of, part, range_with_len, received, refl, same_Some}
+use Words.{subst, suc, sym, tails_same, targets, true, truly, variable_type, where_true, zero, ℕ}
+use Words.{◌&&◌, ◌++◌, ◌+◌, ◌-◌, ◌<◌, ◌∙◌, ◌∷◌, ◌≡◌}
+use Rattle.{lb_check.specs.Clocks.Clock, lb_expand.proofs.fits.FitWords.{AllFit, AreOn}}
+use Rattle.lb_expand.proofs.fits.FitWords.{AreVariablesOn, IsCallOn, IsCalleeOn, IsFit}
+use Rattle.lb_expand.proofs.fits.FitWords.{IsIteratorOn, IsVariableOn, Sorts, copy_fit, seen_clock}
+use Rattle.lb_expand.proofs.fits.KindFacts.{array_kind, type_kind, variable_kind}
+use Rattle.lb_expand.proofs.widths.TypeFacts.{bound, each, types_first, types_left, types_missing}
 use Rattle.lb_expand.proofs.widths.Widths.{called, placed}
+use Rattle.lb_flat.proofs.lists.Lists.{Every-append, Every-drop, Every-first, Every-of_pieces}
+use Rattle.lb_flat.proofs.lists.Lists.{Every-of_range, Every-second, Every-take}
 
 pub nothing_same : {A : Type 0} {B : Type 0} (x : A) (xs : List A) → [] ≡ x ∷ xs → B
 nothing_same x xs e = absurd cc
 
 module _ (S : Sorts) (Y : Layout) (P : Program) where
-  pub as_kind :
-      (k : FlatClock) (c d : Kind) (is : List ℕ) → c ≡ d → AreOn S k c is → AreOn S k d is
+  pub as_kind : (k : FlatClock) (c d : Kind) (is : List ℕ) → c ≡ d → AreOn S k c is → AreOn S k d is
   as_kind k c d is e h = subst (λ b. AreOn S k b is) e h
 
   pub as_clock :
@@ -37,8 +35,7 @@ module _ (S : Sorts) (Y : Layout) (P : Program) where
       AllFit S (copied (map (λ i. record { place = i; clock = k }) places) js)
   copied_fit k c [] js p q = tt
   copied_fit k c (i ∷ is) [] p q = tt
-  copied_fit k c (i ∷ is) (j ∷ js) p q =
-      (copy_fit S k c i j p.0 q.0, copied_fit k c is js p.1 q.1)
+  copied_fit k c (i ∷ is) (j ∷ js) p q = (copy_fit S k c i j p.0 q.0, copied_fit k c is js p.1 q.1)
 
   module _ (here : Instance) where
     -- the elements that inputs receive, on the clocks of an instance and of the kinds of the inputs
@@ -74,8 +71,7 @@ module _ (S : Sorts) (Y : Layout) (P : Program) where
     AllOn k [] [] = Unit {0}
     AllOn k [] (is ∷ iss) = ⊥
     AllOn k (t ∷ ts) [] = ⊥
-    AllOn k (t ∷ ts) (is ∷ iss) =
-        AreOn S (flat_clock Y here.path k) t.kind is × AllOn k ts iss
+    AllOn k (t ∷ ts) (is ∷ iss) = AreOn S (flat_clock Y here.path k) t.kind is × AllOn k ts iss
 
     module _ (c : Instance) where
       abbrev AreTypes : List Declaration → List DataType → Type 0
@@ -141,11 +137,6 @@ module _ (S : Sorts) (Y : Layout) (P : Program) where
       accumulator_on k outputs m (suc j) lt ds u us init p w o =
           first_on k outputs m j (omega arith) ds u us init w o
 
-      part_on :
-          (k : FlatClock) (b : Kind) (m i : ℕ) (is : List ℕ) → AreOn S k b is →
-          AreOn S k b (part m i is)
-      part_on k b m i is h = Every-take _ _ _ (Every-drop _ _ is h)
-
       -- the parts of arrays
       parts_on :
           (k : Clock) (n m i : ℕ) (ins wanted args : List DataType) (iss : List (List ℕ)) →
@@ -161,9 +152,8 @@ module _ (S : Sorts) (Y : Layout) (P : Program) where
       parts_on k n m i (u ∷ ins) wanted (t ∷ args) (is ∷ iss) o same g =
           let h = each (array_of n u) (map (array_of n) ins) wanted o in
           let fit = types_first h.all refl same in (
-            part_on _ u.kind m i is
-                (as_kind _ t.kind u.kind is
-                (sym (array_kind n u h.first h.is ∙ type_kind h.first t fit.0)) g.0),
+            Every-take _ _ _ (Every-drop _ _ is (as_kind _ t.kind u.kind is
+                (sym (array_kind n u h.first h.is ∙ type_kind h.first t fit.0)) g.0)),
             parts_on k n m i ins h.rest args iss h.others fit.1 g.1,
           )
 
@@ -190,8 +180,7 @@ module _ (S : Sorts) (Y : Layout) (P : Program) where
                 (as_kind _ _ _ x (sym initial ∙ out) g.0) w o),
             parts_on k n m i ins _ args iss wanted.is (and_second (is_type a t) arrays inner) g.1,
           )
-      inputs_on k outputs n m i lt Fill ds (a ∷ []) (u ∷ (v ∷ us)) (t ∷ []) ts [] w o e g =
-          absurd g
+      inputs_on k outputs n m i lt Fill ds (a ∷ []) (u ∷ (v ∷ us)) (t ∷ []) ts [] w o e g = absurd g
       inputs_on k outputs n m i lt Fill ds (a ∷ []) (u ∷ (v ∷ us)) (t ∷ []) ts (x ∷ iss) w o e
           g =
           let arrays = bound (all_some (map (array_of n) (v ∷ us))) _ ts e in

@@ -1,26 +1,25 @@
 -- The equations of instances, of inputs and of the whole flat program fit.
 use Rattle.lb_expand.proofs.Words
-use Words.{◌≡◌, ℕ, zero, suc, ◌+◌, true, Option, Some, None, List, [], ◌∷◌, ◌++◌, map, length}
-use Words.{flat_map, replicate, zip, refl, sym, ap, ◌∙◌, subst, arith, list_all, length-map}
-use Words.{length-replicate, slice_get_within, Kind, Every, all_some, Declaration, Statement}
-use Words.{Equation, Assertion, and_first, and_second, Program, Instance, DataType, truth}
-use Words.{are_types, width, variable_type, data_types, type_of_name, is_statement_typed, Base}
-use Words.{declared_clock, call_count, statement_clock, right_sides, FlatClock, Always}
-use Words.{FlatEquation, Layout, flat_clock, State, Emitted, Target, targets, joins, assert, emit}
-use Words.{emit_body, emit_instances, from_inputs, Path, Root, Observer, instance_at, instances}
-use Words.{fits_observer, input_types, before_instances, given_inputs, received, observed, expanded}
-use Words.{slice_get}
-use Rattle.lb_flat.specs.Fitting.{IsFitting}
-use Rattle.lb_flat.proofs.lists.Lists.{Every-append, Every-first, Every-second, Every-map}
-use Rattle.lb_expand.proofs.widths.TypeFacts.{both_there, each, types_first}
-use Rattle.lb_expand.proofs.fits.FitCalls.{as_kind, AreGiven, received_fit}
-use Rattle.lb_expand.proofs.fits.{FitStatements.equation_fit, FitTerms.fits_term}
-use Rattle.lb_expand.proofs.fits.FitWords.{Sorts, IsOn, AreOn, AllSorted, IsFit, AllFit, Grown}
-use Rattle.lb_expand.proofs.fits.FitWords.{not_grown, then_grown, IsVariableOn, AreVariablesOn}
-use Rattle.lb_expand.proofs.fits.FitWords.{IsSet, IsStatementSet, IsInstanceSet, all_fitting}
+use Words.{Always, Assertion, Base, DataType, Declaration, Emitted, Equation, Every, FlatClock}
+use Words.{FlatEquation, Instance, Kind, Layout, List, None, Observer, Option, Path, Program, Root}
+use Words.{Some, State, Statement, Target, [], all_some, and_first, and_second, ap, are_types}
+use Words.{arith, assert, before_instances, call_count, data_types, declared_clock, emit, emit_body}
+use Words.{emit_instances, expanded, fits_observer, flat_clock, flat_map, from_inputs, given_inputs}
+use Words.{input_types, instance_at, instances, is_statement_typed, joins, length, length-map}
+use Words.{length-replicate, list_all, map, observed, received, refl, replicate, right_sides}
+use Words.{slice_get, slice_get_within, statement_clock, subst, suc, sym, targets, true, truth}
+use Words.{type_of_name, variable_type, width, zero, zip, ℕ, ◌++◌, ◌+◌, ◌∙◌, ◌∷◌, ◌≡◌}
+use Rattle.lb_expand.proofs.fits.FitCalls.{AreGiven, as_kind, received_fit}
+use Rattle.lb_expand.proofs.fits.{FitStatements.equation_fit, FitTerms.fits_term, FitWords.AllFit}
+use Rattle.lb_expand.proofs.fits.FitWords.{AllSorted, AreOn, AreVariablesOn, Grown, IsFit}
+use Rattle.lb_expand.proofs.fits.FitWords.{IsInstanceSet, IsOn, IsSet, IsStatementSet, IsVariableOn}
+use Rattle.lb_expand.proofs.fits.FitWords.{Sorts, all_fitting, not_grown, then_grown}
 use Rattle.lb_expand.proofs.fits.KindFacts.{type_kind, variable_kind}
-use Rattle.lb_expand.proofs.solutions.Emission.{joins_equations}
-use Rattle.lb_expand.proofs.solutions.Solving.{occurrences_of, assert_equations}
+use Rattle.lb_expand.proofs.solutions.{Emission.joins_equations, Solving.assert_equations}
+use Rattle.lb_expand.proofs.{solutions.Solving.occurrences_of, widths.TypeFacts.{both_there, each}}
+use Rattle.{lb_expand.proofs.widths.TypeFacts.types_first, lb_flat.proofs.lists.Lists.Every-append}
+use Rattle.lb_flat.proofs.lists.Lists.{Every-first, Every-map, Every-second}
+use Rattle.lb_flat.specs.Fitting.{IsFitting}
 
 -- The equations of instances and of inputs fit; the observer is given what it takes.
 
@@ -100,8 +99,7 @@ module _ (S : Sorts) (Y : Layout) (P : Program) where
   abbrev pub AreInputs : List Target → List Kind → Type 0
   AreInputs [] cs = Unit {0}
   AreInputs (t ∷ ts) [] = ⊥
-  AreInputs (t ∷ ts) (c ∷ cs) =
-      (t.clock ≡ Always) × IsOn S t.clock c t.place × AreInputs ts cs
+  AreInputs (t ∷ ts) (c ∷ cs) = (t.clock ≡ Always) × IsOn S t.clock c t.place × AreInputs ts cs
 
   pub inputs_fit :
       (j : ℕ) (ts : List Target) (cs : List Kind) → AreInputs ts cs →
@@ -114,8 +112,7 @@ module _ (S : Sorts) (Y : Layout) (P : Program) where
       let own : slice_get S.inputs j ≡ Some c =
       subst (λ i. slice_get S.inputs i ≡ Some c) first (at 0 c refl) in
       let later : (i : ℕ) (d : Kind) → slice_get cs i ≡ Some d →
-      slice_get S.inputs (suc j + i) ≡ Some d =
-      λ i d e.
+      slice_get S.inputs (suc j + i) ≡ Some d = λ i d e.
       let next : j + suc i ≡ suc j + i = omega arith in
       subst (λ l. slice_get S.inputs l ≡ Some d) next (at (suc i) d e) in (
         record {
@@ -199,8 +196,7 @@ module _ (S : Sorts) (Y : Layout) (P : Program) where
   pub record IsProgramSet (count : ℕ) : Type 0 where
     pub instances_set : Every (IsInstanceSet S Y P) (instances P)
     -- the temporaries have the clocks and the kinds of their equations
-    pub further :
-        AllSorted S (emit_instances Y P (before_instances count) (instances P)).equations
+    pub further : AllSorted S (emit_instances Y P (before_instances count) (instances P)).equations
     pub root_runs : Y.runs Root ≡ Always
     pub root_set : (root : Instance) → instance_at P Root ≡ Some root → IsStartSet Root root
     pub observer_set :
@@ -217,8 +213,7 @@ module _ (S : Sorts) (Y : Layout) (P : Program) where
     inputs_of :
         (start : Instance) → AreVariablesOn S Y P start →
         Every (IsVariableOn S Y P start) start.node.inputs
-    inputs_of start v =
-        Every-first _ start.node.inputs (start.node.outputs ++ start.node.locals) v
+    inputs_of start v = Every-first _ start.node.inputs (start.node.outputs ++ start.node.locals) v
 
     given_fit : (o : Option Instance) → instance_at P Root ≡ o → AllFit S (given_inputs Y o)
     given_fit None e = tt
@@ -249,8 +244,7 @@ module _ (S : Sorts) (Y : Layout) (P : Program) where
         (inputs_of root start.variables_on) (outputs_of root start.variables_on) in
         let own : Every (λ d.
         flat_clock Y observer.path (declared_clock node d.name) ≡ flat_clock Y root.path Base)
-        node.inputs =
-        Every-map _ _ (λ d h. h ∙ sym runs) node.inputs
+        node.inputs = Every-map _ _ (λ d h. h ∙ sym runs) node.inputs
         (Every-first _ node.inputs node.outputs seen.0.on_base) in
         subst (λ p. AllFit S (received Y node Observer node.inputs
         (map (λ (d : Declaration). Y.places p d.name) es))) start.path

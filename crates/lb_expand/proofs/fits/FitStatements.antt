@@ -1,32 +1,32 @@
 -- The copies of the left variables of an equation fit.
 use Rattle.lb_expand.proofs.Words
-use Words.{found_name, ◌≡◌, ℕ, ◌+◌, ◌*◌, ◌<◌, true, false, pos, Some, IfSome, List, [], ◌∷◌, ◌++◌}
-use Words.{map, length, flat_map, zip, refl, sym, ap, ◌∙◌, subst, arith, range_with_len, bytes_eq}
-use Words.{length-map, append-nil, same_Some, ArrayIterator, Map, Red, Fill, Every, joined}
-use Words.{all_some, where_true, listed, Name, Static, Node_named, Symbol, Expr, Literal, Truth}
-use Words.{Variable, Group, Unary, Binary, If, Arrow, Fby, Pre, Current, When, Replicate, Index}
-use Words.{Slice, Join, Array, AtMostOne, Nor, Call, Iterate, Declaration, Node, and_first}
-use Words.{and_second, named, Program, Instance, Child, static_count, node_named, DataType, int}
-use Words.{truth, is_type, are_types, variables, width, variable_type, element_count, data_types}
-use Words.{all_types, singly, name_data_type, from_one, from_truths, unary_type, binary_type}
-use Words.{common_type, array_of, index_type, slice_type, join_type, list_type, operator_types}
-use Words.{iterator_types, type_of_name, declared_clock, ungrouped, is_site, outputs_of, gathered}
-use Words.{truly, Layout, flat_clock, Target, targets, copied, ◌-◌, Bool, list_all, either_or}
-use Words.{heads_same, tails_same, is_clock, left_clocks, are_on_results, occurrences, number}
-use Words.{iterated, clock_same, State, emit}
-use Rattle.{lb_check.specs.Clocks.Clock, lb_flat.proofs.lists.Lists.{Every-append, Every-map}}
-use Rattle.lb_expand.proofs.fits.FitCalls.{copied_fit, as_kind, as_clock, outputs_in, outputs_at}
-use Rattle.lb_expand.proofs.fits.{FitCalls.{output_on, iterator_found}, FitTerms.TermFits}
-use Rattle.lb_expand.proofs.fits.FitWords.{Sorts, AreOn, AllFit, IsFit, IsVariableOn}
-use Rattle.lb_expand.proofs.fits.FitWords.{AreVariablesOn, IsCalleeOn, IsIteratorOn, AreLeftsOn}
-use Rattle.lb_expand.proofs.fits.FitWords.{AreCallLeftsOn, IsSet}
-use Rattle.lb_expand.proofs.fits.KindFacts.{type_kind, array_kind, variable_kind}
+use Words.{Array, ArrayIterator, Arrow, AtMostOne, Binary, Bool, Call, Child, Current, DataType}
+use Words.{Declaration, Every, Expr, Fby, Fill, Group, If, IfSome, Index, Instance, Iterate, Join}
+use Words.{Layout, List, Literal, Map, Name, Node, Node_named, Nor, Pre, Program, Red, Replicate}
+use Words.{Slice, Some, State, Static, Symbol, Target, Truth, Unary, Variable, When, [], all_some}
+use Words.{all_types, and_first, and_second, ap, append-nil, are_on_results, are_types, arith}
+use Words.{array_of, binary_type, bytes_eq, clock_same, common_type, copied, data_types}
+use Words.{declared_clock, either_or, element_count, emit, false, flat_clock, flat_map, found_name}
+use Words.{from_one, from_truths, gathered, heads_same, index_type, int, is_clock, is_site, is_type}
+use Words.{iterated, iterator_types, join_type, joined, left_clocks, length, length-map, list_all}
+use Words.{list_type, listed, map, name_data_type, named, node_named, number, occurrences}
+use Words.{operator_types, outputs_of, pos, range_with_len, refl, same_Some, singly, slice_type}
+use Words.{static_count, subst, sym, tails_same, targets, true, truly, truth, type_of_name}
+use Words.{unary_type, ungrouped, variable_type, variables, where_true, width, zip, ℕ, ◌*◌, ◌++◌}
+use Words.{◌+◌, ◌-◌, ◌<◌, ◌∙◌, ◌∷◌, ◌≡◌}
+use Rattle.{lb_check.specs.Clocks.Clock, lb_expand.proofs.fits.FitCalls.{as_clock, as_kind}}
+use Rattle.lb_expand.proofs.fits.FitCalls.{copied_fit, iterator_found, output_on, outputs_at}
+use Rattle.lb_expand.proofs.fits.{FitCalls.outputs_in, FitTerms.TermFits, FitWords.AllFit}
+use Rattle.lb_expand.proofs.fits.FitWords.{AreCallLeftsOn, AreLeftsOn, AreOn, AreVariablesOn}
+use Rattle.lb_expand.proofs.fits.FitWords.{IsCalleeOn, IsFit, IsIteratorOn, IsSet, IsVariableOn}
+use Rattle.lb_expand.proofs.fits.{FitWords.Sorts, KindFacts.{array_kind, type_kind, variable_kind}}
 use Rattle.lb_expand.proofs.{numbering.ReceivedInputs.copied_append, reads.LinkSymbols.joins_found}
-use Rattle.lb_expand.proofs.widths.TypeFacts.{bound, alone, one, two, types_missing, from_true}
-use Rattle.lb_expand.proofs.widths.TypeFacts.{same_count, array_count, constant, symbolic, found_in}
-use Rattle.lb_expand.proofs.widths.TypeFacts.{each, width_of, length-range, Each, Filled, red_of}
-use Rattle.lb_expand.proofs.widths.TypeFacts.{fill_of, types_first, types_left}
-use Rattle.lb_expand.proofs.widths.Widths.{called, placed}
+use Rattle.lb_expand.proofs.widths.TypeFacts.{Each, Filled, alone, array_count, bound, constant}
+use Rattle.lb_expand.proofs.widths.TypeFacts.{each, fill_of, found_in, from_true, length-range, one}
+use Rattle.lb_expand.proofs.widths.TypeFacts.{red_of, same_count, symbolic, two, types_first}
+use Rattle.lb_expand.proofs.widths.{TypeFacts.{types_left, types_missing, width_of}, Widths.called}
+use Rattle.{lb_expand.proofs.widths.Widths.placed, lb_flat.proofs.lists.Lists.Every-append}
+use Rattle.lb_flat.proofs.lists.Lists.{Every-map}
 
 -- The left variables of an equation are copies that fit, also where its right side is a call or an
 -- iterated node with several results.
@@ -250,8 +250,7 @@ module _ (S : Sorts) (Y : Layout) (P : Program) (here : Instance)
       flat_clock Y c.path (declared_clock c.node u.0.name)
       ≡ flat_clock Y here.path (declared_clock here.node u.1)) (zip ds lefts) →
       AreResults lefts ts (map (λ d. Y.places c.path d.name) ds)
-  each_result c [] ts us [] o e same v k =
-      subst (λ vs. AreResults [] vs []) (same_Some _ _ o) tt
+  each_result c [] ts us [] o e same v k = subst (λ vs. AreResults [] vs []) (same_Some _ _ o) tt
   each_result c [] ts us (x ∷ xs) o e same v k =
       types_missing (sym (same_Some _ _ o))
       (each (type_of_name P here x) (map (type_of_name P here) xs) us e).all same
@@ -437,9 +436,6 @@ module _ (S : Sorts) (Y : Layout) (P : Program) (here : Instance)
             out_is : z.out ≡ first.first
             out_is = heads_same _ _ _ _ first.all
 
-            others_is : first.rest ≡ z.others
-            others_is = sym (tails_same _ _ _ _ first.all)
-
             all : are_types (z.out ∷ z.arrays) us ≡ true
             all = subst (λ vs. are_types vs us ≡ true) z.ts_is same
 
@@ -465,7 +461,7 @@ module _ (S : Sorts) (Y : Layout) (P : Program) (here : Instance)
                   as_clock S Y P _ _ z.out.kind _ (ap (flat_clock Y here.path) on.0)
                       (as_kind S Y P _ d.kind z.out.kind _ kind (g last le).0),
                   each_array the_callee k m by_instance ds z.others z.arrays b.rest xs
-                      (first.others ∙ ap Some others_is) z.gives b.others
+                      (first.others ∙ ap Some (sym (tails_same _ _ _ _ first.all))) z.gives b.others
                       (and_second (is_type z.out b.first) (are_types z.arrays b.rest) both)
                       (pieces ds (λ i lt. (h i lt).1) (λ i lt. (g i lt).1)) on.1,
                 ))

@@ -1,44 +1,43 @@
 -- The equations of an expression fit; its elements are on its clock and of the kind of its type.
 use Rattle.lb_expand.proofs.Words
-use Words.{found_name, any_in, in_map, find_in, arith, heads_same, ◌≡◌, ℕ, ◌+◌, true, false, ◌&&◌}
-use Words.{◌||◌, not, ℤ, pos, ◌⊎◌, inl, inr, Option, Some, None, IfSome, option_map, List, [], ◌∷◌}
-use Words.{◌++◌, map, refl, sym, ap, ◌∙◌, subst, subst₂, bytes_eq, bytes_eq-Decides, same_Some}
-use Words.{BinaryOperator, ArrayIterator, Map, Red, Fill, Kind, Int, Every, joined, all_some}
-use Words.{either_or, where_true, Name, Node_named, Symbol, Expr, Literal, Truth, Variable, Group}
-use Words.{Unary, Binary, If, Arrow, Fby, Pre, Current, When, Replicate, Index, Slice, Join, Array}
-use Words.{AtMostOne, Nor, Call, Iterate, Exprs, Nil, Cons, Declaration, implied, and_first}
-use Words.{and_second, named, Program, Instance, static_count, node_named, name_value, DataType}
-use Words.{int, truth, is_type, are_types, variables, variable_type, among, variable_names}
-use Words.{data_types, all_types, singly, name_data_type, from_one, from_truths, unary_type}
-use Words.{binary_type, common_type, array_of, index_type, slice_type, join_type, list_type}
-use Words.{is_arithmetic, is_logical, constant_type, operator_types, iterator_types, Scalar}
-use Words.{Integer, Boolean, or_fault, first_value, is_clock, Occurrence, call_count, call_clocks}
-use Words.{occurrences, occurrences_in, occurrences_each, number, clock_same, first_of_all, truly}
-use Words.{FlatClock, Where, Constant, ApplyUnary, ApplyBinary, FirstThen, Previous, Latest, Sample}
-use Words.{FlatEquation, Layout, where_signed, flat_clock, State, Emitted, EmittedAll, add, joins}
-use Words.{emit_symbol, emit_name, emit, emit_all, emit_each, Truth_kind, On, clock_or}
-use Words.{declared_clock}
-use Rattle.{lb_check.specs.Clocks.{Clock, clock_of}, lb_flat.specs.Fitting.{IsOf, binary_kind}}
-use Rattle.lb_flat.proofs.lists.Lists.{Every-append, Every-first, Every-second, Every-take}
-use Rattle.lb_flat.proofs.lists.Lists.{Every-drop, Every-copies, Every-joined}
-use Rattle.lb_flat.proofs.runs.Fitting.{nil_of}
-use Rattle.lb_expand.proofs.fits.FitCalls.{AreArguments, AllOn, call_fit, call_found, iterator_fit}
-use Rattle.lb_expand.proofs.fits.FitCalls.{iterator_found}
-use Rattle.lb_expand.proofs.fits.FitWords.{Sorts, IsOn, AreOn, AllSorted, AllFit, IsFit, Gives}
-use Rattle.lb_expand.proofs.fits.FitWords.{integer_gives, boolean_gives, fault_gives, unary_sorted}
-use Rattle.lb_expand.proofs.fits.FitWords.{binary_sorted, first_then_sorted, previous_sorted}
-use Rattle.lb_expand.proofs.fits.FitWords.{latest_sorted, sample_sorted, Grown, Fit, not_grown}
-use Rattle.lb_expand.proofs.fits.FitWords.{then_grown, then_fit, add_fit, keep_fit, one_fit}
-use Rattle.lb_expand.proofs.fits.FitWords.{two_fit, choice_fit, nor_fit, Earlier, earlier}
-use Rattle.lb_expand.proofs.fits.FitWords.{at_most_one_fit, symbol_fit, IsVariableOn}
-use Rattle.lb_expand.proofs.fits.FitWords.{AreVariablesOn, IsSet}
-use Rattle.lb_expand.proofs.emission.EmissionSteps.{nor_step, at_most_one_step, symbol_step}
-use Rattle.lb_expand.proofs.fits.KindFacts.{AllOf, type_kind, kinds_alike, arrays_alike}
-use Rattle.lb_expand.proofs.fits.KindFacts.{unary_kinds, binary_kinds, common_kinds, array_kind}
-use Rattle.lb_expand.proofs.fits.KindFacts.{index_kind, slice_kind, join_kinds, list_kinds}
-use Rattle.lb_expand.proofs.{fits.KindFacts.variable_kind, solutions.Emission.joins_equations}
-use Rattle.lb_expand.proofs.widths.TypeFacts.{bound, alone, one, two, from_true, Symbolic, constant}
-use Rattle.lb_expand.proofs.widths.TypeFacts.{symbolic, found_in, each}
+use Words.{ApplyBinary, ApplyUnary, Array, ArrayIterator, Arrow, AtMostOne, Binary, BinaryOperator}
+use Words.{Boolean, Call, Cons, Constant, Current, DataType, Declaration, Emitted, EmittedAll}
+use Words.{Every, Expr, Exprs, Fby, Fill, FirstThen, FlatClock, FlatEquation, Group, If, IfSome}
+use Words.{Index, Instance, Int, Integer, Iterate, Join, Kind, Latest, Layout, List, Literal, Map}
+use Words.{Name, Nil, Node_named, None, Nor, Occurrence, On, Option, Pre, Previous, Program, Red}
+use Words.{Replicate, Sample, Scalar, Slice, Some, State, Symbol, Truth, Truth_kind, Unary}
+use Words.{Variable, When, Where, [], add, all_some, all_types, among, and_first, and_second}
+use Words.{any_in, ap, are_types, arith, array_of, binary_type, bytes_eq, bytes_eq-Decides}
+use Words.{call_clocks, call_count, clock_or, clock_same, common_type, constant_type, data_types}
+use Words.{declared_clock, either_or, emit, emit_all, emit_each, emit_name, emit_symbol, false}
+use Words.{find_in, first_of_all, first_value, flat_clock, found_name, from_one, from_truths}
+use Words.{heads_same, implied, in_map, index_type, inl, inr, int, is_arithmetic, is_clock}
+use Words.{is_logical, is_type, iterator_types, join_type, joined, joins, list_type, map}
+use Words.{name_data_type, name_value, named, node_named, not, number, occurrences}
+use Words.{occurrences_each, occurrences_in, operator_types, option_map, or_fault, pos, refl}
+use Words.{same_Some, singly, slice_type, static_count, subst, subst₂, sym, true, truly, truth}
+use Words.{unary_type, variable_names, variable_type, variables, where_signed, where_true, ℕ, ℤ}
+use Words.{◌&&◌, ◌++◌, ◌+◌, ◌||◌, ◌∙◌, ◌∷◌, ◌≡◌, ◌⊎◌}
+use Rattle.lb_check.specs.Clocks.{Clock, clock_of}
+use Rattle.lb_expand.proofs.emission.EmissionSteps.{at_most_one_step, nor_step, symbol_step}
+use Rattle.lb_expand.proofs.fits.FitCalls.{AllOn, AreArguments, call_fit, call_found, iterator_fit}
+use Rattle.lb_expand.proofs.fits.{FitCalls.iterator_found, FitWords.{AllFit, AllSorted, AreOn}}
+use Rattle.lb_expand.proofs.fits.FitWords.{AreVariablesOn, Earlier, Fit, Gives, Grown, IsFit, IsOn}
+use Rattle.lb_expand.proofs.fits.FitWords.{IsSet, IsVariableOn, Sorts, add_fit, at_most_one_fit}
+use Rattle.lb_expand.proofs.fits.FitWords.{binary_sorted, boolean_gives, choice_fit}
+use Rattle.lb_expand.proofs.fits.FitWords.{earlier, first_then_sorted, keep_fit}
+use Rattle.lb_expand.proofs.fits.FitWords.{latest_sorted, nor_fit, not_grown, one_fit}
+use Rattle.lb_expand.proofs.fits.FitWords.{previous_sorted, symbol_fit, then_fit, then_grown}
+use Rattle.lb_expand.proofs.fits.{FitWords.{two_fit, unary_sorted}, KindFacts.{AllOf, array_kind}}
+use Rattle.lb_expand.proofs.fits.KindFacts.{arrays_alike, binary_kinds, common_kinds, index_kind}
+use Rattle.lb_expand.proofs.fits.KindFacts.{join_kinds, kinds_alike, list_kinds, slice_kind}
+use Rattle.lb_expand.proofs.fits.KindFacts.{type_kind, unary_kinds, variable_kind}
+use Rattle.lb_expand.proofs.{solutions.Emission.joins_equations, widths.TypeFacts.{Symbolic, alone}}
+use Rattle.lb_expand.proofs.widths.TypeFacts.{bound, constant, each, found_in, from_true, one}
+use Rattle.lb_expand.proofs.widths.TypeFacts.{symbolic, two}
+use Rattle.lb_flat.proofs.lists.Lists.{Every-append, Every-copies, Every-drop, Every-first}
+use Rattle.lb_flat.proofs.lists.Lists.{Every-joined, Every-second, Every-take}
+use Rattle.lb_flat.{proofs.runs.Fitting.nil_of, specs.Fitting.{IsOf, binary_kind}}
 
 arithmetic_kind :
     (op : BinaryOperator) → is_arithmetic op ≡ true → binary_kind op Int Int ≡ Some Int
@@ -119,8 +118,8 @@ module _ (S : Sorts) (Y : Layout) (P : Program) (here : Instance)
   named_gives :
       (k : FlatClock) (o : Option ℤ) → IsOf Int (or_fault o) →
       Gives S k Int (Constant (or_fault o))
-  named_gives k None h = fault_gives S k
-  named_gives k (Some z) h = integer_gives S k z h
+  named_gives k None h = record { clocks = tt; kinds = refl; kind = refl }
+  named_gives k (Some z) h = record { clocks = tt; kinds = h; kind = refl }
 
   name_fits :
       (k : Clock) (s : State) (x : Name) (o : Option Declaration) (ts : List DataType) →
@@ -272,13 +271,13 @@ module _ (S : Sorts) (Y : Layout) (P : Program) (here : Instance)
         AllSorted S (emit Y P here k n s e).state.equations →
         TermFits s (emit Y P here k n s e) k ts
     fits_term k n s (Literal m) ts e w h =
-        constant_fits k s (Integer (pos m)) int ts (integer_gives S (flat k) (pos m) w.0.at_it)
+        constant_fits k s (Integer (pos m)) int ts
+        (record { clocks = tt; kinds = w.0.at_it; kind = refl })
         (constant (Some (pos m)) ts e).all h
     fits_term k n s (Truth b) ts e w h =
         constant_fits k s (Boolean b) truth ts (boolean_gives S (flat k) b)
         (sym (same_Some _ _ e)) h
-    fits_term k n s (Variable x) ts e w h =
-        name_fits k s x _ ts refl w.0.at_it w.0.clocked e h
+    fits_term k n s (Variable x) ts e w h = name_fits k s x _ ts refl w.0.at_it w.0.clocked e h
     fits_term k n s (Group a) ts e w h = fits_term k n s a ts e w h
     fits_term k n s (Unary op a) ts e w h =
         let i = one (data_types P here a) (unary_type op) ts e in
@@ -354,7 +353,11 @@ module _ (S : Sorts) (Y : Layout) (P : Program) (here : Instance)
         (subst (λ l. Fit S s (emit Y P here k n s (When a x sign)) (flat l) c) (sym clock)
         (one_fit S Sample
         (λ x p. subst (λ l. Gives S l c (Sample x)) (sym sampled)
-        (sample_sorted S (flat own) c at_it.0 sign x p))
+        (record {
+          clocks = (at_it.0, sign, ap (λ l. Where l at_it.0 sign) (sym p.0));
+          kinds = p.1;
+          kind = p.1;
+        }))
         (fit_of (ap (λ (t : DataType). t.kind) (same_Some _ _ i.gives))
         (fits_term own n s a _ i.is w.1)) h)) i.all
     fits_term k n s (Replicate a m) ts e w h =

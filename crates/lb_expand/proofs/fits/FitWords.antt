@@ -1,24 +1,24 @@
 -- The small words of expansion give equations that fit, under conditions on places and clocks.
 use Rattle.lb_expand.proofs.Words
-use Words.{arith, ◌≡◌, ℕ, suc, Bool, false, ℤ, Some, List, [], ◌∷◌, map, length, refl, sym, ap, ap₂}
-use Words.{◌∙◌, subst, UnaryOperator, Not, BinaryOperator, Or, And, ArrayIterator, Map, Red, Kind}
-use Words.{Int, Every, zip2, Scalar, Integer, Boolean, Bad, FlatClock, Where, Operation, Constant}
-use Words.{Copy, ApplyUnary, ApplyBinary, Choose, FirstThen, Previous, Latest, Sample, FlatEquation}
-use Words.{operation_kind, State, Emitted, numbered, numbers, add, keep, push, chosen_by, chained}
-use Words.{twice, negated, emit_nor, emit_at_most_one, emit_symbol, ◌<◌, true, pos, None, ◌++◌, zip}
-use Words.{list_all, Name, Static, Node_named, Symbol, Expr, Literal, Variable, When, Call, Iterate}
-use Words.{Exprs, Declaration, Node, Statement, Equation, Assertion, Program, Instance, Child}
-use Words.{call_site, callee_of, node_named, name_value, named, variables, width, or_fault}
-use Words.{is_occurrence_clocked, is_statement_clocked, is_statement_typed, is_arithmetic}
-use Words.{Occurrence, node_occurrences, statements, number, Layout, flat_clock, declared_clock}
-use Words.{base_clock, outer, ungrouped}
-use Rattle.lb_syntax.specs.declared.tree.Kind.TheVariants.{Bool as Truth}
+use Words.{And, ApplyBinary, ApplyUnary, ArrayIterator, Assertion, BinaryOperator, Bool, Boolean}
+use Words.{Call, Child, Choose, Constant, Copy, Declaration, Emitted, Equation, Every, Expr, Exprs}
+use Words.{FirstThen, FlatClock, FlatEquation, Instance, Int, Integer, Iterate, Kind, Latest}
+use Words.{Layout, List, Literal, Map, Name, Node, Node_named, None, Not, Occurrence, Operation, Or}
+use Words.{Previous, Program, Red, Scalar, Some, State, Statement, Static, Symbol, UnaryOperator}
+use Words.{Variable, When, [], add, ap, ap₂, arith, base_clock, call_site, callee_of, chained}
+use Words.{chosen_by, declared_clock, emit_at_most_one, emit_nor, emit_symbol, false, flat_clock}
+use Words.{is_arithmetic, is_occurrence_clocked, is_statement_clocked, is_statement_typed, keep}
+use Words.{length, list_all, map, name_value, named, negated, node_named, node_occurrences, number}
+use Words.{numbered, numbers, operation_kind, or_fault, outer, pos, push, refl, statements, subst}
+use Words.{suc, sym, true, twice, ungrouped, variables, width, zip, zip2, ℕ, ◌++◌, ◌<◌, ◌∙◌, ◌∷◌}
+use Words.{◌≡◌}
 use Rattle.lb_check.specs.Clocks.{Clock, given_inputs}
-use Rattle.lb_flat.specs.Fitting.{OperandsFit, ClockFits, IsOf, binary_kind, unary_kind}
-use Rattle.lb_flat.specs.Fitting.{OperandKinds, KindFits, IsFitting}
-use Rattle.lb_flat.specs.TemporaryKinds.{unary_result, binary_result}
+use Rattle.lb_expand.proofs.emission.EmissionSteps.{IsAdding, chained_step, push_step, twice_step}
 use Rattle.lb_flat.proofs.lists.Lists.{Every-append, Every-first, Every-second}
-use Rattle.lb_expand.proofs.emission.EmissionSteps.{IsAdding, push_step, chained_step, twice_step}
+use Rattle.lb_flat.specs.Fitting.{ClockFits, IsFitting, IsOf, KindFits, OperandKinds, OperandsFit}
+use Rattle.lb_flat.specs.{Fitting.{binary_kind, unary_kind}, TemporaryKinds.binary_result}
+use Rattle.lb_flat.specs.TemporaryKinds.{unary_result}
+use Rattle.lb_syntax.specs.declared.tree.Kind.TheVariants.{Bool as Truth}
 
 -- The small words of expansion give elements on a clock and of a kind, and equations that fit.
 
@@ -46,8 +46,7 @@ binary_gives op Truth Truth r e = truths_result op r e
 binary_gives op Int Truth r e = cc
 binary_gives op Truth Int r e = cc
 
-pub unary_gives :
-    (op : UnaryOperator) (k r : Kind) → unary_kind op k ≡ Some r → unary_result op ≡ r
+pub unary_gives : (op : UnaryOperator) (k r : Kind) → unary_kind op k ≡ Some r → unary_result op ≡ r
 unary_gives op k r e = grind arith
 
 module _ (S : Sorts) where
@@ -106,15 +105,8 @@ module _ (S : Sorts) where
 
   -- ## Operations
 
-  pub integer_gives : (k : FlatClock) (z : ℤ) → IsOf Int (Integer z) →
-      Gives k Int (Constant (Integer z))
-  integer_gives k z h = record { clocks = tt; kinds = h; kind = refl }
-
   pub boolean_gives : (k : FlatClock) (b : Bool) → Gives k Truth (Constant (Boolean b))
   boolean_gives k b = record { clocks = tt; kinds = refl; kind = refl }
-
-  pub fault_gives : (k : FlatClock) → Gives k Int (Constant Bad)
-  fault_gives k = record { clocks = tt; kinds = refl; kind = refl }
 
   pub unary_sorted :
       (k : FlatClock) (c d : Kind) (op : UnaryOperator) → unary_kind op c ≡ Some d → (a : ℕ) →
@@ -134,12 +126,6 @@ module _ (S : Sorts) where
     kind = binary_gives op c d r e;
   }
 
-  pub choice_sorted :
-      (k : FlatClock) (c d : Kind) (z a b : ℕ) → IsOn k c z → IsOn k d a → IsOn k d b →
-      Gives k d (Choose z a b)
-  choice_sorted k c d z a b o p q =
-      record { clocks = (o.0, p.0, q.0); kinds = (p.1, q.1); kind = p.1 }
-
   pub first_then_sorted :
       (k : FlatClock) (c : Kind) (a b : ℕ) → IsOn k c a → IsOn k c b →
       Gives k c (FirstThen false a b)
@@ -156,12 +142,6 @@ module _ (S : Sorts) where
       Gives k c (Latest v a)
   latest_sorted k l c v h a p = record { clocks = tt; kinds = (h, p.1); kind = p.1 }
 
-  pub sample_sorted :
-      (k : FlatClock) (c : Kind) (i : ℕ) (sign : Bool) (a : ℕ) → IsOn k c a →
-      Gives (Where k i sign) c (Sample a)
-  sample_sorted k c i sign a p =
-      record { clocks = (i, sign, ap (λ l. Where l i sign) (sym p.0)); kinds = p.1; kind = p.1 }
-
   -- operations on one element, on two or on three, for each item of their lists
   pub each_gives :
       (k l : FlatClock) (c d : Kind) (f : ℕ → Operation) →
@@ -176,15 +156,15 @@ module _ (S : Sorts) where
       AreOn k c is → AreOn k d js → AllGive k r (zip2 f is js)
   two_give k c d r f g [] js p q = tt
   two_give k c d r f g (i ∷ is) [] p q = tt
-  two_give k c d r f g (i ∷ is) (j ∷ js) p q =
-      (g i j p.0 q.0, two_give k c d r f g is js p.1 q.1)
+  two_give k c d r f g (i ∷ is) (j ∷ js) p q = (g i j p.0 q.0, two_give k c d r f g is js p.1 q.1)
 
   pub choices_give :
       (k : FlatClock) (c d : Kind) (zs is js : List ℕ) → AreOn k c zs → AreOn k d is →
       AreOn k d js → AllGive k d (chosen_by zs is js)
   choices_give k c d [] is js o p q = tt
   choices_give k c d (z ∷ zs) is js o p q =
-      two_give k d d d (Choose z) (λ i j r s. choice_sorted k c d z i j o.0 r s) is js p q
+      two_give k d d d (Choose z)
+      (λ i j r s. record { clocks = (o.0.0, r.0, s.0); kinds = (r.1, s.1); kind = r.1 }) is js p q
 
   -- ## What is kept from state to state
 
@@ -488,8 +468,7 @@ module _ (S : Sorts) (Y : Layout) (P : Program) where
     IsSetAt k n (Variable x) =
         named (λ d. d.name) x (variables here.node) ≡ None →
         IsOf Int (or_fault (name_value P here x))
-    IsSetAt k n (When a x sign) =
-        (i : ℕ) × (rest : List ℕ) × (Y.signs here.path x ≡ i ∷ rest)
+    IsSetAt k n (When a x sign) = (i : ℕ) × (rest : List ℕ) × (Y.signs here.path x ≡ i ∷ rest)
     IsSetAt k n (Call f statics es) =
         IsCalleeOn n f statics 0
         × ((callee : Node) → node_named P f ≡ Some callee → IsCallOn k n es callee)

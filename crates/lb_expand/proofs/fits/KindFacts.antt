@@ -98,8 +98,7 @@ array_kind n t r e =
     in
     ap (λ (u : DataType). u.kind) h.same
 
-with_kind :
-    (k : Kind) (ns : List ℕ) (a : ℕ × DataType) → element_with k ns ≡ Some a → k ≡ a.1.kind
+with_kind : (k : Kind) (ns : List ℕ) (a : ℕ × DataType) → element_with k ns ≡ Some a → k ≡ a.1.kind
 with_kind k [] a e = cc
 with_kind k (n ∷ ns) a e =
     let same : (n, record { kind = k; sizes = ns }) ≡ a = same_Some _ _ e in

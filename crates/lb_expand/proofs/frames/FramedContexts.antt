@@ -162,8 +162,7 @@ module _ (P : Program) (r : Reached) (t : Table) (reached : IsReached P r)
       let y = held_at (statics_of is.node) j.0 long in
       let at : slice_get (statics_of is.node) j.0 ≡ Some (Named z.0) =
       y.1 ∙ ap Some (sym (ap (λ o. either_or o (Whole 0)) y.1) ∙ z.1) in
-      let other : among z.0 names ≡ false =
-      not-true _ (sym (ap (is_no_variable names) z.1) ∙ u) in
+      let other : among z.0 names ≡ false = not-true _ (sym (ap (is_no_variable names) z.1) ∙ u) in
       let node : here.node ≡ node_of is.node = ap (λ (c : Instance). c.node) is.same in
       let none : named (λ d. d.name) z.0 (variables here.node) ≡ None =
       ap (λ (m : Node). named (λ d. d.name) z.0 (variables m)) node
@@ -211,8 +210,7 @@ module _ (c : Checking) (lawful : IsChecked c) (l : Layout) (all : Children) (k 
     types_of_row = cc
 
     -- the instance of the row's specialization at the path of the row is `here`
-    specialized_here :
-        specialized_at c.elab.reached here.path is.specialization ≡ Some here
+    specialized_here : specialized_at c.elab.reached here.path is.specialization ≡ Some here
     specialized_here =
         cc (specialized_instance P c.elab.reached c.elab.table lawful.elaborated.reached
         lawful.elaborated.table is.specialization is.node here.path is.resolved)

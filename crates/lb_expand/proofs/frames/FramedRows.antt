@@ -1,32 +1,31 @@
 -- What a frame reads of a row of a checked program, its clocks among it.
 use Rattle.lb_expand.proofs.Words
-use Words.{◌≡◌, ◌≤◌, ℕ, true, Option, List, ap₂, sym, ◌∙◌, subst, elaborated_program, Instance}
-use Words.{IsChecked, clock_in, is_clock_within, Checking, path_place, path_runs, path_before}
-use Words.{IsClockTable, flat_clock, layout, IsLayoutOf, sources_of, all_clocks, all_runs, clock_id}
-use Words.{clock_of, ClockId, zero, suc, ◌+◌, ◌<◌, Bool, false, Some, None, [], ◌∷◌, ◌++◌, length}
-use Words.{flat_map, take, get_or, option_map, refl, ap, arith, range_with_len, length-append}
-use Words.{length-range_with_len, sum_by-append, sum_by-cons, get_or_from_slice_get, same_Some}
-use Words.{le-leb, lt-ltb, ◌>>=◌, In, listed, mapped_from, all_at, is_int, variables, Program}
-use Words.{Child, Site, node_named, node_sites, instances, keeps_names, IsResolved, node_of}
-use Words.{counts_of, is_variable, Reached, ResolvedNode, VariableId, Specialization, Table, in_at}
-use Words.{place_in, declared_clock, Occurrence, node_occurrences, HasClocks, name_in, declared_in}
-use Words.{instance_there, names_kept, declared_within, count_of, get_mapped, site_occurs}
-use Words.{row_context, parameters_of, value_at, held_below, held_value, frame_contexts}
-use Words.{read_clocks, row_read, sum_of, widths_in, first_of_row, row_numbers, numbers_at}
-use Words.{called_row, child_row, child_numbers, Children, Clocks, ℤ, nat_le, slice_get}
-use Words.{if◌then◌else◌, IsReached, source_names, callee_in}
-use mathlib.Core.Path.{fun_ext}
-use Rattle.lb_static.specs.{ReachedNodes.id_at, declared.reachable.NodeId.NodeId}
-use Rattle.lb_static.specs.declared.resolved.CallSite.{CallSite}
-use Rattle.lb_check.specs.declared.own_clock.Clock.{Clock, TheVariants.{Base, On}}
+use Words.{Bool, Checking, Child, Children, ClockId, Clocks, HasClocks, In, Instance, IsChecked}
+use Words.{IsClockTable, IsLayoutOf, IsReached, IsResolved, List, None, Occurrence, Option, Program}
+use Words.{Reached, ResolvedNode, Site, Some, Specialization, Table, VariableId, [], all_at}
+use Words.{all_clocks, all_runs, ap, ap₂, arith, called_row, callee_in, child_numbers, child_row}
+use Words.{clock_id, clock_in, clock_of, count_of, counts_of, declared_clock, declared_in}
+use Words.{declared_within, elaborated_program, false, first_of_row, flat_clock, flat_map}
+use Words.{frame_contexts, get_mapped, get_or, get_or_from_slice_get, held_below, held_value}
+use Words.{if◌then◌else◌, in_at, instance_there, instances, is_clock_within, is_int, is_variable}
+use Words.{keeps_names, layout, le-leb, length, length-append, length-range_with_len, listed}
+use Words.{lt-ltb, mapped_from, name_in, names_kept, nat_le, node_named, node_occurrences, node_of}
+use Words.{node_sites, option_map, parameters_of, path_before, path_place, path_runs, place_in}
+use Words.{range_with_len, read_clocks, refl, row_context, row_numbers, row_read, same_Some}
+use Words.{site_occurs, slice_get, source_names, sources_of, subst, suc, sum_by-append, sum_by-cons}
+use Words.{sum_of, sym, take, true, value_at, variables, widths_in, zero, ℕ, ℤ, ◌++◌, ◌+◌, ◌<◌}
+use Words.{◌>>=◌, ◌∙◌, ◌∷◌, ◌≡◌, ◌≤◌}
 use Rattle.lb_check.proofs.clocking.{ClockTests.declared_is, WholeClocks.resolved_at}
-use Rattle.lb_expand.specs.RowFrames.{Read, held_callee, read_clock, read_context, read_id}
-use Rattle.lb_expand.specs.{RowFrames.{read_numbers, found_terms, input_id}, Rows.row_widths}
-use Rattle.lb_expand.specs.declared.layout.Layout.{Layout}
-use Rattle.lb_expand.proofs.clock_tables.FilledClocks.{filled_table, row_clock, node_found}
-use Rattle.lb_expand.proofs.{clock_tables.FilledClocks.own_clocks, frames.RowContexts.callee_is}
+use Rattle.lb_check.specs.declared.own_clock.Clock.{Clock, TheVariants.{Base, On}}
+use Rattle.lb_expand.proofs.clock_tables.FilledClocks.{filled_table, node_found, own_clocks}
+use Rattle.lb_expand.proofs.{clock_tables.FilledClocks.row_clock, frames.RowContexts.callee_is}
 use Rattle.lb_expand.proofs.numbering.{NumberedRows.row_variables, RowChildren.child_found}
-use Rattle.lb_expand.proofs.numbering.RowInstances.{IsRow, row_of}
+use Rattle.lb_expand.{proofs.numbering.RowInstances.{IsRow, row_of}, specs.RowFrames.Read}
+use Rattle.lb_expand.specs.RowFrames.{found_terms, held_callee, input_id, read_clock, read_context}
+use Rattle.lb_expand.specs.{RowFrames.{read_id, read_numbers}, Rows.row_widths}
+use Rattle.{lb_expand.specs.declared.layout.Layout.Layout, lb_static.specs.ReachedNodes.id_at}
+use Rattle.lb_static.specs.declared.{reachable.NodeId.NodeId, resolved.CallSite.CallSite}
+use mathlib.Core.Path.{fun_ext}
 use Rattle.lb_static.specs.declared.table.Instance as row
 use Rattle.lb_flat.specs.declared.equation.Clock as table
 use Rattle.lb_check.specs.Clocks as tree
@@ -138,13 +137,6 @@ module _ (r : Reached) (t : Table) (l : Layout) (laid : IsLayoutOf r t l) where
       range_below l.count (first_of_row r t j + sum_of (take x ws)) (get_or ws x 0)
       (λ some. omega (arith, own, all, total))
 
-  -- the numbers that are read for a variable of a row are the numbers of its elements
-  pub held_numbers :
-      (j x : ℕ) →
-      held_below l.count (numbers_at l.variables.items l.starts.items j x)
-      ≡ row_numbers r t j (record { 0 = x })
-  held_numbers j x = ap (held_below l.count) (laid.numbers j x) ∙ numbers_below j x
-
 -- a static value that is an `int` is read as it is
 pub value_read :
     (statics : List ℤ) (i : ℕ) (z : ℤ) → slice_get statics i ≡ Some z → is_int z ≡ true →
@@ -224,7 +216,8 @@ module _ (c : Checking) (lawful : IsChecked c) (l : Layout) (all : Children) (k 
         value = held_value s.statics.items;
       }
   read_is j n s = λ i. record (row_context r t (read_clocks (own_read j n s)) j n s) {
-    places = fun_ext (λ x. held_numbers r t l laid j x) i;
+    places = fun_ext (λ x. ap (held_below l.count) (laid.numbers j x) ∙ numbers_below r t l laid j
+        x) i;
     value = held_value s.statics.items;
     callee =
         fun_ext (λ m. callee_read P r (names_kept P lawful.elaborated.accepted)
@@ -241,7 +234,7 @@ module _ (c : Checking) (lawful : IsChecked c) (l : Layout) (all : Children) (k 
               listed (λ q. read_numbers (own_read j n s) q x) o
               ≡ listed (λ q. row_numbers c.elab.reached c.elab.table q (record { 0 = x })) o
           by None = refl
-          by (Some q) = held_numbers _ _ l laid q x
+          by (Some q) = (ap (held_below l.count) (laid.numbers q x) ∙ numbers_below _ _ l laid q x)
 
   module _ (j : ℕ) (i : row.Instance) (here : Instance)
       (is : IsRow (elaborated_program c.elab) c.elab.reached c.elab.table

@@ -1,36 +1,36 @@
 -- The rows and starts of a small checked program can be emitted from a frame.
 use Rattle.lb_expand.proofs.Words
-use Words.{◌≡◌, ◌<◌, ℕ, suc, ◌+◌, Some, None, List, [], ◌∷◌, length, ap, sym, ◌∙◌, subst, refl}
-use Words.{arith, length-map, Every, listed, Node, Program, Instance, node_sites, static_refusal}
-use Words.{IsTable, IsReached, node_of, Reached, ResolvedStatement, Table, check_refusal}
-use Words.{HasFoundClocks, node_occurrences, clock_in, NodeClocks, Every-append, IsCounted, bodies}
-use Words.{body_in, Context, ◌≤◌, inl, inr, ◌*◌, Bool, true, Option, ◌++◌, flat_map, ap₂, sum_by}
-use Words.{range_with_len, ForSome, length-append, length-range_with_len, sum_by-append}
-use Words.{sum_by-cons, same_Some, leb-true, Kind, In, Declaration, item_at, input_kinds}
-use Words.{scalar_elements, signature, width, Root, instances, instance_at, in_at, declared_clock}
-use Words.{element_kinds, instance_elements, program_elements, elements, instance_size, is_small}
-use Words.{size, property_path, instantiation_kept, length_kinds, Every-all, Every-first}
-use Words.{in_instances, length_elements, Target, expanded, targets, HasRows, IsReady}
-use Words.{parameter_targets, start_in, start_of, whole, FlatProgram, Layout, flat_clock, layout}
-use Words.{table_kinds, element_total, elaborated_program, kinds_of, IsChecked, Checking, AreWhole}
-use Words.{IsBounded, IsExpansionOf, program_of, found_row, frame_contexts, called_row, child_row}
-use Words.{IsLayoutOf, all_clocks, all_runs, sources_of, Children, Clocks, Global, ◌^◌, slice_get}
-use Words.{Vec, Result, Err, IfOk, flat_map-append, Clock}
-use Rattle.{std.{specs.Option.MatchOption, proofs.Common.Ok}, lb_expand.specs.RowFrames.IsFrameOf}
-use Rattle.lb_expand.specs.RowFrames.{contexts_of, is_row, is_row_of, read_of}
-use Rattle.lb_expand.specs.declared.layout.Layout.{Layout as StoredLayout}
-use Rattle.lb_expand.specs.declared.row_frame.RowFrame.{RowFrame}
-use Rattle.lb_expand.proofs.emission.EmittedTable.{IsRowContext, row_place_is}
-use Rattle.lb_expand.proofs.emission.EmittedWhole.{node_found, inputs_are, inputs_at, not_started}
-use Rattle.lb_expand.proofs.emission.EmittedWhole.{start_path, started}
-use Rattle.lb_expand.proofs.frames.FramedContexts.{row_not_there, rows_there, framed_program}
-use Rattle.lb_expand.proofs.frames.{FramedContexts.framed_row, RowContexts.own_resolved}
+use Words.{AreWhole, Bool, Checking, Children, Clock, Clocks, Context, Declaration, Err, Every}
+use Words.{Every-all, Every-append, Every-first, FlatProgram, ForSome, Global, HasFoundClocks}
+use Words.{HasRows, IfOk, In, Instance, IsBounded, IsChecked, IsCounted, IsExpansionOf, IsLayoutOf}
+use Words.{IsReached, IsReady, IsTable, Kind, Layout, List, Node, NodeClocks, None, Option}
+use Words.{PlacedState, Program, Reached, ResolvedStatement, Result, Root, Some, Table, Target, Vec}
+use Words.{[], all_clocks, all_runs, ap, ap₂, arith, bodies, body_in, called_row, check_refusal}
+use Words.{child_row, clock_in, declared_clock, elaborated_program, element_kinds, element_total}
+use Words.{elements, expanded, flat_clock, flat_map, flat_map-append, found_row, frame_contexts}
+use Words.{in_at, in_instances, inl, input_kinds, inr, instance_at, instance_elements}
+use Words.{instance_size, instances, instantiation_kept, is_small, item_at, kinds_of, layout}
+use Words.{leb-true, length, length-append, length-map, length-range_with_len, length_elements}
+use Words.{length_kinds, listed, node_occurrences, node_of, node_sites, parameter_targets}
+use Words.{program_elements, program_of, property_path, range_with_len, refl, same_Some}
+use Words.{scalar_elements, signature, size, slice_get, sources_of, start_in, start_of}
+use Words.{static_refusal, subst, suc, sum_by, sum_by-append, sum_by-cons, sym, table_kinds}
+use Words.{targets, true, whole, width, ℕ, ◌*◌, ◌++◌, ◌+◌, ◌<◌, ◌^◌, ◌∙◌, ◌∷◌, ◌≡◌, ◌≤◌}
+use Rattle.lb_expand.proofs.emission.{EmittedTable.{IsRowContext, row_is}, EmittedWhole.inputs_are}
+use Rattle.lb_expand.proofs.emission.EmittedWhole.{inputs_at, node_found, not_started, start_path}
+use Rattle.lb_expand.proofs.{emission.EmittedWhole.started, frames.FramedContexts.framed_program}
+use Rattle.lb_expand.proofs.frames.FramedContexts.{framed_row, row_not_there, rows_there}
+use Rattle.lb_expand.proofs.frames.RowContexts.{own_resolved}
 use Rattle.lb_expand.proofs.numbering.{AcceptedExpansion.expansion_of, NumberedPlaces.places_width}
-use Rattle.lb_expand.proofs.numbering.RowInstances.{IsRow, row_shown, row_of, table_kinds_are}
-use Rattle.lb_expand.proofs.numbering.TableProgram.{literals_small, has}
+use Rattle.lb_expand.proofs.numbering.RowInstances.{IsRow, row_of, row_shown, table_kinds_are}
+use Rattle.lb_expand.proofs.numbering.TableProgram.{has, literals_small}
 use Rattle.lb_expand.proofs.widths.PropertyOutput.{output_width, property_of}
-use Rattle.lb_expand.proofs.widths.{SoundPrograms.{small_few, scalars_count}, TableSizes.in_sum}
-use Rattle.lb_expand.proofs.widths.TableSizes.{element_total_is}
+use Rattle.lb_expand.proofs.widths.SoundPrograms.{scalars_count, small_few}
+use Rattle.lb_expand.proofs.widths.TableSizes.{element_total_is, in_sum}
+use Rattle.lb_expand.specs.RowFrames.{IsFrameOf, contexts_of, is_row, is_row_of, read_of}
+use Rattle.lb_expand.specs.declared.layout.Layout.{Layout as StoredLayout}
+use Rattle.{lb_expand.specs.declared.row_frame.RowFrame.RowFrame, std.proofs.Common.Ok}
+use Rattle.std.specs.Option.{MatchOption}
 use Rattle.lb_static.specs.declared.table.Instance as row
 use Rattle.lb_flat.specs.declared.program.FlatProgram as code
 
@@ -112,15 +112,12 @@ module _ (P : Program) (accepted : static_refusal P ≡ None) (checked : check_r
 
     counted : IsCounted (cs k, is.node.body.items)
     counted s =
-        let at = row_place_is P accepted checked (literals_small P accepted checked) r t reached
-        table k i here is (cs k) (contexts k i here is) s in
+        let at = ap (λ (x : PlacedState). x.place)
+        (row_is P accepted checked (literals_small P accepted checked) r t reached table k i here
+        is (cs k) (contexts k i here is) s) in
         let terms = terms_few in
         let calls = calls_few in
         rw at (record { terms = omega (arith, terms); calls = omega (arith, calls) })
-
-  -- the places of the terms and calls of all rows can be counted
-  pub bodies_counted : Every IsCounted (bodies r t cs 0 t.instances.items)
-  bodies_counted = bodies_every P r t reached table accepted cs IsCounted counted
 
 -- The starts of a small program can be entered and counted: the elements of its inputs, its inputs
 -- and outputs, and all elements of the program. There is at least one element.
@@ -216,8 +213,7 @@ module _ (P : Program) (accepted : static_refusal P ≡ None) (checked : check_r
       where
         by : (o : Option Instance) → instance_at P (start_path b) ≡ o → IsReady cs is_row s
         by None h =
-            let nowhere : None ≡ Some s =
-            sym (not_started P r t reached table accepted b h) ∙ e in
+            let nowhere : None ≡ Some s = sym (not_started P r t reached table accepted b h) ∙ e in
             absurd cc
         by (Some here) h =
             let st = started P r t reached table accepted b here h in
@@ -321,19 +317,8 @@ module _ (P : Program) (accepted : static_refusal P ≡ None) where
       by (c ∷ is) lt = omega arith
 
   module _ (r : Reached) (t : Table) (reached : IsReached P r) (table : IsTable P r t) where
-    -- there is at least one element
-    pub total_some : 0 < element_total r t
-    total_some = rw (element_total_is P r t reached table) program_some
-
-    -- there are as many kinds as elements
-    pub kinds_many : length (table_kinds r t) ≡ element_total r t
-    kinds_many =
-        ap (λ (ks : List Kind). length ks) (table_kinds_are P r t reached table accepted)
-        ∙ (length_kinds P ∙ sym (element_total_is P r t reached table))
-
     -- the first row has its node
-    pub first_found :
-        (is_row : ℕ → Bool) → HasRows r t is_row → is_row 0 ≡ true
+    pub first_found : (is_row : ℕ → Bool) → HasRows r t is_row → is_row 0 ≡ true
     first_found is_row rows =
         let first = item_at (instances P) 0 instances_some in
         let line = row_of P r t table 0 first.0 first.1 in
@@ -363,8 +348,7 @@ pub record CanEmit (s : Emittable) : Type 0 where
   pub positive : 0 < s.count
   pub elements : (emitted s).size ≤ 327680
   pub inputs : length s.inputs ≤ 65536
-  pub places :
-      Every IsCounted (bodies s.reached s.table s.contexts 0 s.table.instances.items)
+  pub places : Every IsCounted (bodies s.reached s.table s.contexts 0 s.table.instances.items)
   pub there : HasRows s.reached s.table s.rows
   pub start :
       (observer : Bool) →
@@ -431,14 +415,16 @@ module _ (c : Checking) (lawful : IsChecked c) (l : StoredLayout)
       let reached = lawful.elaborated.reached in
       let table = lawful.elaborated.table in
       record {
-        kinds = kinds_many P accepted r t reached table ∙ sym laid.count;
-        positive = rw laid.count (total_some P accepted r t reached table);
+        kinds =
+            ap (λ (ks : List Kind). length ks) (table_kinds_are P r t reached table accepted)
+            ∙ length_kinds P ∙ sym (element_total_is P r t reached table) ∙ sym laid.count;
+        positive =
+            rw (laid.count, element_total_is P r t reached table) (program_some P accepted);
         elements = whole_few P accepted lawful.accepted r t reached table small cs contexts framed
             (kinds_of c.elab.signature) (table_kinds r t) l.count laid.count;
-        inputs =
-            rw (← lawful.elaborated.inputs) (signature_few P accepted small);
-        places = bodies_counted P accepted lawful.accepted r t reached table c.clocks.items
-            lawful.clocks cs contexts;
+        inputs = rw (← lawful.elaborated.inputs) (signature_few P accepted small);
+        places = bodies_every P r t reached table accepted cs IsCounted (counted P accepted
+            lawful.accepted r t reached table c.clocks.items lawful.clocks cs contexts);
         there = rows;
         start = start_ready P accepted lawful.accepted r t reached table small cs contexts own_row
             rows;

@@ -263,8 +263,7 @@ module _ (P : Program) (r : Reached) (t : Table) (reached : IsReached P r)
       let y = held_at (statics_of is.node) j.0 long in
       let at : slice_get (statics_of is.node) j.0 ≡ Some (Named z.0) =
       y.1 ∙ ap Some (sym (ap (λ o. either_or o (Whole 0)) y.1) ∙ z.1) in
-      let other : among z.0 names ≡ false =
-      not-true _ (sym (ap (is_no_variable names) z.1) ∙ u) in
+      let other : among z.0 names ≡ false = not-true _ (sym (ap (is_no_variable names) z.1) ∙ u) in
       record {
         name = z.0;
         is = z.1;
@@ -311,8 +310,7 @@ module _ (P : Program) (r : Reached) (t : Table) (reached : IsReached P r)
       }
 
   -- the context of the row is what its instance gives
-  pub context_is :
-      IsContext (layout P) P here (texts_of is.node) (counts_of is.node) own_context
+  pub context_is : IsContext (layout P) P here (texts_of is.node) (counts_of is.node) own_context
   context_is = record {
     named = variable_there;
     places = λ x w. own_numbers_are P r t reached table accepted k i here is x w;

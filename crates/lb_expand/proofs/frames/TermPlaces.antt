@@ -126,8 +126,7 @@ module _ {A : Type 0} (R : ℕ → A → Type 0) where
   along_first t [] ys h = tt
   along_first t (x ∷ xs) ys h = (h.0, along_first (suc t) xs ys h.1)
 
-  pub along_second :
-      (t : ℕ) (xs ys : List A) → Along R t (xs ++ ys) → Along R (t + length xs) ys
+  pub along_second : (t : ℕ) (xs ys : List A) → Along R t (xs ++ ys) → Along R (t + length xs) ys
   along_second t [] ys h = let e : t ≡ t + 0 = omega arith in subst (λ t. Along R t ys) e h
   along_second t (x ∷ xs) ys h =
       let e : suc t + length xs ≡ t + suc (length xs) = omega arith in

@@ -1,13 +1,11 @@
 -- The operators `#` and `nor` as a chain of `or` and `and` over one stream after another.
-use Rattle.lb_expand.proofs.Words.{◌≡◌, ℕ, zero, suc, ◌+◌, Bool, true, false, nat_eq, Option, Some}
-use Rattle.lb_expand.proofs.Words.{None, IfSome, option_map, List, [], ◌∷◌, map, length, fold, cond}
-use Rattle.lb_expand.proofs.Words.{refl, sym, ap, ap₂, ◌∙◌, arith, sum_by-cons, Not, Or, And, Every}
-use Rattle.lb_expand.proofs.Words.{zip2, all_some, tail_of, Scalar, Integer, Boolean, Bad, Stream}
-use Rattle.lb_expand.proofs.Words.{two_scalars, one_scalar, at_most_one, none_true, strict, held}
-use Rattle.lb_expand.proofs.Words.{constantly, along, along_two, first_cell, across, nat_le}
-use Rattle.lb_expand.proofs.Words.{count_by}
-use Rattle.lb_check.specs.Scalars.{Cell, Nil, is_true}
-use Rattle.lb_flat.proofs.lists.Lists.{tail_long}
+use Rattle.lb_expand.proofs.Words
+use Words.{And, Bad, Bool, Boolean, Every, IfSome, Integer, List, None, Not, Option, Or, Scalar}
+use Words.{Some, Stream, [], across, all_some, along, along_two, ap, ap₂, arith, at_most_one, cond}
+use Words.{constantly, count_by, false, first_cell, fold, held, length, map, nat_eq, nat_le}
+use Words.{none_true, one_scalar, option_map, refl, strict, suc, sum_by-cons, sym, tail_of, true}
+use Words.{two_scalars, zero, zip2, ℕ, ◌+◌, ◌∙◌, ◌∷◌, ◌≡◌}
+use Rattle.{lb_check.specs.Scalars.{Cell, Nil, is_true}, lb_flat.proofs.lists.Lists.tail_long}
 
 -- ## Counts of the operands that are true
 
@@ -84,8 +82,7 @@ fault_counted (v ∷ vs) = fault_counted vs
 
 module _ (test : ℕ → Bool) where
   -- after a nil operand, the operator and the test of the count agree
-  nil_counted :
-      (vs : List Scalar) → strict vs Nil ≡ by_test test (fold one_more Unknown vs)
+  nil_counted : (vs : List Scalar) → strict vs Nil ≡ by_test test (fold one_more Unknown vs)
   nil_counted [] = refl
   nil_counted (Bad ∷ vs) = sym (ap (by_test test) (fault_counted vs))
   nil_counted (Nil ∷ vs) = nil_counted vs
@@ -213,51 +210,22 @@ module _ (f : List Scalar → Scalar) (g : Count → Scalar) (by : IsBy f g) whe
 none_by : IsBy none_true none_counted
 none_by = record { same = counted_by (λ n. nat_eq n 0) }
 
-at_most_one_by : IsBy at_most_one at_most_one_counted
-at_most_one_by = record { same = counted_by (λ n. nat_le n 1) }
-
 -- ## The counts by `or` and `and`
 
 any_one : (c : Count) (v : Scalar) → two_scalars Or (any_counted c) v ≡ any_counted (one_more c v)
 any_one (Counted zero) (Boolean true) = refl
-any_one (Counted zero) (Boolean false) = refl
 any_one (Counted (suc n)) (Boolean true) = refl
-any_one (Counted (suc n)) (Boolean false) = refl
-any_one (Counted zero) (Integer z) = refl
-any_one (Counted (suc n)) (Integer z) = refl
-any_one (Counted zero) Nil = refl
-any_one (Counted (suc n)) Nil = refl
-any_one (Counted zero) Bad = refl
-any_one (Counted (suc n)) Bad = refl
-any_one Unknown (Boolean b) = refl
-any_one Unknown (Integer z) = refl
 any_one Unknown Nil = refl
-any_one Unknown Bad = refl
-any_one Faulty v = refl
+any_one _ _ = refl
 
 two_one :
     (c : Count) (v : Scalar) →
     two_scalars Or (two_counted c) (two_scalars And (any_counted c) v) ≡ two_counted (one_more c v)
 two_one (Counted zero) (Boolean true) = refl
-two_one (Counted zero) (Boolean false) = refl
 two_one (Counted (suc zero)) (Boolean true) = refl
-two_one (Counted (suc zero)) (Boolean false) = refl
 two_one (Counted (suc (suc n))) (Boolean true) = refl
-two_one (Counted (suc (suc n))) (Boolean false) = refl
-two_one (Counted zero) (Integer z) = refl
-two_one (Counted (suc zero)) (Integer z) = refl
-two_one (Counted (suc (suc n))) (Integer z) = refl
-two_one (Counted zero) Nil = refl
-two_one (Counted (suc zero)) Nil = refl
-two_one (Counted (suc (suc n))) Nil = refl
-two_one (Counted zero) Bad = refl
-two_one (Counted (suc zero)) Bad = refl
-two_one (Counted (suc (suc n))) Bad = refl
-two_one Unknown (Boolean b) = refl
-two_one Unknown (Integer z) = refl
 two_one Unknown Nil = refl
-two_one Unknown Bad = refl
-two_one Faulty v = refl
+two_one _ _ = refl
 
 pub any_step :
     (cs : List (Option Count)) (xs : Stream) →
@@ -287,44 +255,31 @@ any_counts :
 any_counts cs [] = refl
 any_counts cs (xs ∷ xss) = cc (any_step cs xs, any_counts (zip2 more cs xs) xss)
 
+-- no truth is counted before the first operand
 pub none_yet :
-    (bs : List Bool) →
-    constantly (Boolean false) bs ≡ read_by any_counted (map (held (Counted 0)) bs)
-none_yet [] = refl
-none_yet (true ∷ bs) = ap (λ ys. Some (Boolean false) ∷ ys) (none_yet bs)
-none_yet (false ∷ bs) = ap (λ ys. None ∷ ys) (none_yet bs)
+    (g : Count → Scalar) → Boolean false ≡ g (Counted 0) → (bs : List Bool) →
+    constantly (Boolean false) bs ≡ read_by g (map (held (Counted 0)) bs)
+none_yet g e [] = refl
+none_yet g e (true ∷ bs) = ap₂ (λ v ys. Some v ∷ ys) e (none_yet g e bs)
+none_yet g e (false ∷ bs) = ap (λ ys. None ∷ ys) (none_yet g e bs)
 
-pub not_two_yet :
-    (bs : List Bool) →
-    constantly (Boolean false) bs ≡ read_by two_counted (map (held (Counted 0)) bs)
-not_two_yet [] = refl
-not_two_yet (true ∷ bs) = ap (λ ys. Some (Boolean false) ∷ ys) (not_two_yet bs)
-not_two_yet (false ∷ bs) = ap (λ ys. None ∷ ys) (not_two_yet bs)
+not_counted :
+    (f g : Count → Scalar) → ((c : Count) → one_scalar Not (f c) ≡ g c) →
+    (cs : List (Option Count)) → along (one_scalar Not) (read_by f cs) ≡ read_by g cs
+not_counted f g e [] = refl
+not_counted f g e (None ∷ cs) = ap (λ ys. None ∷ ys) (not_counted f g e cs)
+not_counted f g e (Some c ∷ cs) = ap₂ (λ v ys. Some v ∷ ys) (e c) (not_counted f g e cs)
 
-not_any :
-    (cs : List (Option Count)) →
-    along (one_scalar Not) (read_by any_counted cs) ≡ read_by none_counted cs
-not_any [] = refl
-not_any (None ∷ cs) = ap (λ ys. None ∷ ys) (not_any cs)
-not_any (Some Faulty ∷ cs) = ap (λ ys. Some Bad ∷ ys) (not_any cs)
-not_any (Some Unknown ∷ cs) = ap (λ ys. Some Nil ∷ ys) (not_any cs)
-not_any (Some (Counted zero) ∷ cs) = ap (λ ys. Some (Boolean true) ∷ ys) (not_any cs)
-not_any (Some (Counted (suc n)) ∷ cs) =
-    let e : false ≡ nat_eq (suc n) 0 = grind arith in
-    ap₂ (λ b ys. Some (Boolean b) ∷ ys) e (not_any cs)
+not_any : (c : Count) → one_scalar Not (any_counted c) ≡ none_counted c
+not_any (Counted (suc n)) = ap Boolean (grind arith)
+not_any Unknown = refl
+not_any _ = refl
 
-not_two :
-    (cs : List (Option Count)) →
-    along (one_scalar Not) (read_by two_counted cs) ≡ read_by at_most_one_counted cs
-not_two [] = refl
-not_two (None ∷ cs) = ap (λ ys. None ∷ ys) (not_two cs)
-not_two (Some Faulty ∷ cs) = ap (λ ys. Some Bad ∷ ys) (not_two cs)
-not_two (Some Unknown ∷ cs) = ap (λ ys. Some Nil ∷ ys) (not_two cs)
-not_two (Some (Counted zero) ∷ cs) = ap (λ ys. Some (Boolean true) ∷ ys) (not_two cs)
-not_two (Some (Counted (suc zero)) ∷ cs) = ap (λ ys. Some (Boolean true) ∷ ys) (not_two cs)
-not_two (Some (Counted (suc (suc n))) ∷ cs) =
-    let e : false ≡ nat_le (suc (suc n)) 1 = grind arith in
-    ap₂ (λ b ys. Some (Boolean b) ∷ ys) e (not_two cs)
+not_two : (c : Count) → one_scalar Not (two_counted c) ≡ at_most_one_counted c
+not_two (Counted (suc zero)) = refl
+not_two (Counted (suc (suc n))) = ap Boolean (grind arith)
+not_two Unknown = refl
+not_two _ = refl
 
 -- ## Both chains
 
@@ -336,9 +291,9 @@ pub none_chained :
     ≡ across none_true bs xss
 none_chained bs xss h t =
     ap (along (one_scalar Not))
-    (ap (λ ys. fold (along_two (two_scalars Or)) ys xss) (none_yet bs)
+    (ap (λ ys. fold (along_two (two_scalars Or)) ys xss) (none_yet any_counted refl bs)
     ∙ any_counts (map (held (Counted 0)) bs) xss)
-    ∙ not_any (counts bs xss)
+    ∙ not_counted any_counted none_counted not_any (counts bs xss)
     ∙ sym (across_counts none_true none_counted none_by bs xss h t)
 
 -- `#` is the negation of whether two are true
@@ -347,4 +302,6 @@ pub at_most_one_counts :
     AllTruths xss →
     along (one_scalar Not) (read_by two_counted (counts bs xss)) ≡ across at_most_one bs xss
 at_most_one_counts bs xss h t =
-    not_two _ ∙ sym (across_counts at_most_one at_most_one_counted at_most_one_by bs xss h t)
+    not_counted two_counted at_most_one_counted not_two _
+    ∙ sym (across_counts at_most_one at_most_one_counted
+    (record { same = counted_by (λ n. nat_le n 1) }) bs xss h t)

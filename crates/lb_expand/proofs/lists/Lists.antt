@@ -94,20 +94,17 @@ total f [] = 0
 total f (x ∷ xs) = f x + total f xs
 
 module _ {A : Type 0} where
-  pub total-append :
-      (f : A → ℕ) (xs ys : List A) → total f (xs ++ ys) ≡ total f xs + total f ys
+  pub total-append : (f : A → ℕ) (xs ys : List A) → total f (xs ++ ys) ≡ total f xs + total f ys
   total-append f [] ys = omega arith
   total-append f (x ∷ xs) ys = let e = total-append f xs ys in omega (arith, e)
 
   -- the total of a sum of two functions is the sum of their totals
-  pub total-plus :
-      (f g : A → ℕ) (xs : List A) → total (λ x. f x + g x) xs ≡ total f xs + total g xs
+  pub total-plus : (f g : A → ℕ) (xs : List A) → total (λ x. f x + g x) xs ≡ total f xs + total g xs
   total-plus f g [] = omega arith
   total-plus f g (x ∷ xs) = let e = total-plus f g xs in omega (arith, e)
 
   -- functions that are equal item by item have equal totals
-  pub total-same :
-      (f g : A → ℕ) (xs : List A) → Every (λ x. f x ≡ g x) xs → total f xs ≡ total g xs
+  pub total-same : (f g : A → ℕ) (xs : List A) → Every (λ x. f x ≡ g x) xs → total f xs ≡ total g xs
   total-same f g [] h = refl
   total-same f g (x ∷ xs) h = ap₂ (λ a b. a + b) h.0 (total-same f g xs h.1)
 

@@ -1,27 +1,28 @@
 -- The flat program of an accepted program, in the layout by numbers, stands for it and is its
 -- expansion.
 use Rattle.lb_expand.proofs.Words
-use Words.{◌≡◌, ℕ, None, List, [], ◌++◌, length, refl, sym, Every, In, Name, Declaration, variables}
-use Words.{input_kinds, Program, Instance, Path, Root, Observer, instance_at, instances}
-use Words.{static_refusal, map_in, check_refusal, program_elements, node_occurrences, Stream}
-use Words.{Inputs, Solves, History, in_first, in_second, Every-at, Every-from, at_path, IsVariable}
-use Words.{given_inputs, observed, before_instances, emit_instances, expanded, FlatEquation, Holds}
-use Words.{instants, IsFlatOf, IsFlatSolution, layout, ◌<◌, Element, Needs, HasReads, IsExpansionOf}
-use Words.{IsGiven, Leads, NeedsAt, FlatProgram}
+use Words.{Always, Declaration, Element, Every, Every-at, Every-from, FlatEquation, FlatProgram}
+use Words.{HasReads, History, Holds, In, Inputs, Instance, Int, IsExpansionOf, IsFlatOf}
+use Words.{IsFlatSolution, IsGiven, IsVariable, Leads, List, Name, Needs, NeedsAt, None, Observer}
+use Words.{Path, Program, Root, Solves, Stream, [], at_path, before_instances, check_refusal}
+use Words.{element_kinds, element_values, emit_instances, expanded, given_inputs, in_first}
+use Words.{in_second, input_kinds, instance_at, instances, instants, kinds_from, layout, length}
+use Words.{length_kinds, map, map_in, node_occurrences, observed, program_elements, refl}
+use Words.{static_refusal, sym, variables, ℕ, ◌++◌, ◌<◌, ◌≡◌}
 use Rattle.lb_check.proofs.programs.SolutionStreams.{presence_long}
-use Rattle.lb_expand.proofs.clock_tables.{ClockTable.runs_at, SignStreams.signs_history}
-use Rattle.lb_expand.proofs.clock_tables.SignStreams.{runs_history, signs_flat}
+use Rattle.lb_expand.proofs.clock_tables.{ClockTable.runs_at, SignStreams.runs_history}
+use Rattle.lb_expand.proofs.clock_tables.SignStreams.{signs_flat, signs_history}
 use Rattle.lb_expand.proofs.copies.{CallCopies.{HasCopies, all_copied}, GivenProgram.given_whole}
-use Rattle.lb_expand.proofs.numbering.NumberedFits.{program_sorts, AreScalars, clocks_first}
-use Rattle.lb_expand.proofs.numbering.NumberedFits.{kinds_first, all_kinds_counted}
-use Rattle.lb_expand.proofs.numbering.NumberedFits.{variable_kinds_taken, program_fits}
-use Rattle.lb_expand.proofs.numbering.NumberedPlaces.{count_within, is_placing, is_in_order}
+use Rattle.lb_expand.proofs.{fits.KindFacts.got_first, numbering.NumberedFits.AreScalars}
+use Rattle.lb_expand.proofs.numbering.NumberedFits.{all_kinds_counted, further, program_fits}
+use Rattle.lb_expand.proofs.numbering.{NumberedFits.program_sorts, NumberedPlaces.clock_on}
+use Rattle.lb_expand.proofs.numbering.NumberedPlaces.{count_within, is_in_order, is_placing}
 use Rattle.lb_expand.proofs.numbering.TableProgram.{accepted_scalars}
 use Rattle.lb_expand.proofs.reads.NumberedReads.{given_once, needs_are, needs_reads}
 use Rattle.lb_expand.proofs.solutions.FlatHistories.{all_gathered, filled_columns}
 use Rattle.lb_expand.proofs.solutions.{FlatStanding.{StandsFor, stands_for}, Placing.columns}
 use Rattle.lb_expand.proofs.{solutions.Solving.IsPlacing, widths.SoundInstances.RunsAt}
-use Rattle.lb_expand.proofs.widths.SoundPrograms.{observer_wide_in}
+use Rattle.{lb_expand.proofs.widths.SoundPrograms.observer_wide_in, std.proofs.lemmas.List.take_at}
 
 -- The flat program of an accepted program, in the layout by numbers, stands for it.
 
@@ -42,7 +43,9 @@ module _ (P : Program) (accepted : static_refusal P ≡ None)
       (program_sorts P).kind_of size
   placing =
       is_placing P accepted (program_sorts P).clock_of (program_sorts P).kind_of size
-      (count_within P accepted) (clocks_first P accepted) (kinds_first P accepted)
+      (count_within P accepted) (λ i k e. got_first Always k (element_values P (clock_on P))
+      (map (λ q. q.clock) (further P)) i e) (λ i l e. got_first Int l
+      (element_kinds P) (kinds_from (element_kinds P) (further P)) i e)
 
   -- what is called runs on the clock of the call
   pub runs :
@@ -120,15 +123,15 @@ module _ (P : Program) (accepted : static_refusal P ≡ None)
         (presence_long P accepted checked) ticks served
 
     -- the flat program of an accepted program stands for it
-    pub numbered_flat :
-        IsFlatOf P (expanded (layout P) P (length (program_elements P)))
+    pub numbered_flat : IsFlatOf P (expanded (layout P) P (length (program_elements P)))
     numbered_flat = record {
       accepted = accepted;
       checked = checked;
       signature = refl;
       variables = refl;
       as_many = all_kinds_counted P accepted;
-      variable_kinds = variable_kinds_taken P accepted;
+      variable_kinds = take_at (element_kinds P) (kinds_from (element_kinds P) (further P))
+          (length (program_elements P)) (length_kinds P);
       fitting = ((program_sorts P).clock_of, program_fits P accepted checked scalars);
       solves = standing.solves;
       solved = standing.solved;

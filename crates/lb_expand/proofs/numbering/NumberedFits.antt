@@ -1,37 +1,36 @@
 -- The clocks and kinds of the flat program of an accepted program fit, in the layout by numbers.
 use Rattle.lb_expand.proofs.Words
-use Words.{◌≡◌, ℕ, ◌<◌, true, false, ◌&&◌, inl, Option, Some, None, List, [], ◌∷◌, ◌++◌, map}
-use Words.{length, take, flat_map, refl, sym, ap, ◌∙◌, subst, arith, nat_le, slice_get, list_all}
-use Words.{nat_tests, same_Some, Kind, Int, Every, In, either_or, holds, Static, Node_named, Symbol}
-use Words.{Expr, Literal, Variable, When, Call, Iterate, Declaration, Statement, Equation}
-use Words.{Assertion, all_in, and_first, and_second, variables, width, signature, input_kinds}
-use Words.{Program, Instance, Path, Root, Observer, Site, call_site, callee_of, name_value}
-use Words.{node_named, static_count, instance_at, instances, static_refusal, is_between}
-use Words.{has_plain_clocks, has_property, fits_observer, is_root, named, node_sizes, node_parts}
-use Words.{check_refusal, are_declared_clocks, is_occurrence_clocked, is_statement_clocked, On}
-use Words.{declared_clock, program_elements, element_kinds, serving, Occurrence, at}
-use Words.{node_occurrences, statements, Integer, or_fault, number, is_clock_typed, is_arithmetic}
-use Words.{clocked, Every-at, Every-from, in_second, to_pieces, instance_there, instantiation_kept}
-use Words.{clock_same, count_of, length_kinds, kinds_at_numbers, element_values, values_at_numbers}
-use Words.{at_path, in_instances, path_is, IsOver, IsVariable, occurrence_fits, own_site}
-use Words.{emit_instances, before_instances, expanded, FlatClock, Always, FlatEquation, kinds_from}
-use Words.{flat_clock, layout, pos, length-append, Truth_kind}
-use Rattle.{std.proofs.lemmas.List.take_at, lb_static.specs.Parts.{declared_sizes, own_sizes}}
-use Rattle.lb_check.specs.{Clocks.Clock, Elements.numbers_of}
+use Words.{Always, Assertion, Call, Declaration, Equation, Every, Every-at, Every-from, Expr}
+use Words.{FlatEquation, In, Instance, Int, Integer, IsOver, IsVariable, Iterate, List, Literal}
+use Words.{Node_named, None, Observer, Occurrence, On, Option, Path, Program, Root, Site, Some}
+use Words.{Statement, Static, Symbol, Truth_kind, Variable, When, [], all_in, and_first, and_second}
+use Words.{ap, are_declared_clocks, arith, at, at_path, before_instances, call_site, callee_of}
+use Words.{check_refusal, clock_same, clocked, count_of, declared_clock, either_or, element_kinds}
+use Words.{element_values, emit_instances, expanded, false, fits_observer, flat_clock, flat_map}
+use Words.{has_plain_clocks, has_property, holds, in_instances, in_second, inl, input_kinds}
+use Words.{instance_at, instance_there, instances, instantiation_kept, is_arithmetic, is_between}
+use Words.{is_clock_typed, is_occurrence_clocked, is_root, is_statement_clocked, kinds_at_numbers}
+use Words.{kinds_from, layout, length, length-append, length_kinds, list_all, map, name_value}
+use Words.{named, nat_le, nat_tests, node_named, node_occurrences, node_parts, node_sizes, number}
+use Words.{occurrence_fits, or_fault, own_site, path_is, pos, program_elements, refl, same_Some}
+use Words.{serving, signature, slice_get, statements, static_count, static_refusal, subst, sym}
+use Words.{to_pieces, true, values_at_numbers, variables, width, ℕ, ◌&&◌, ◌++◌, ◌<◌, ◌∙◌, ◌∷◌, ◌≡◌}
 use Rattle.lb_check.proofs.clocking.GivenParameters.{on_base}
-use Rattle.lb_check.proofs.programs.AcceptedElements.{length_values, input_kinds_are}
-use Rattle.lb_check.proofs.programs.{AcceptedRules.{valued, typed}, ServedVariables.serving_first}
-use Rattle.{lb_check.proofs.programs.SiteOccurrences.part_of_node, lb_flat.specs.Fitting.IsFitting}
-use Rattle.lb_flat.{specs.Fitting.{IsOf, binary_kind}, proofs.solutions.StandingRuns.root_kept}
+use Rattle.lb_check.proofs.programs.AcceptedElements.{input_kinds_are, length_values}
+use Rattle.lb_check.proofs.programs.{AcceptedRules.{typed, valued}, ServedVariables.serving_first}
+use Rattle.lb_check.{proofs.programs.SiteOccurrences.part_of_node, specs.Clocks.Clock}
+use Rattle.lb_check.specs.Elements.{numbers_of}
 use Rattle.lb_expand.proofs.clock_tables.ClockTable.{CalleeClocks, ClocksAt, LeftClocks}
 use Rattle.lb_expand.proofs.clock_tables.ClockTable.{LeftClocksAt, callee_clocks, left_clocks_of}
-use Rattle.lb_expand.proofs.fits.{FitProgram.{IsStartSet, IsProgramSet, whole_fits}, FitWords.Sorts}
-use Rattle.lb_expand.proofs.fits.FitWords.{AllSorted, IsVariableOn, AreVariablesOn, IsSetAt}
-use Rattle.lb_expand.proofs.fits.{FitWords.{CallLefts, IsInstanceSet}, KindFacts.got_first}
-use Rattle.lb_expand.proofs.fits.KindFacts.{sorts_of, further_sorted, length-kinds_from}
-use Rattle.lb_expand.proofs.numbering.NumberedPlaces.{places_width, signs_are, is_laid_out}
-use Rattle.lb_expand.proofs.{numbering.NumberedPlaces.clock_on, solutions.Solving.all_closed}
-use Rattle.lb_expand.proofs.{widths.TypeFacts.bound}
+use Rattle.lb_expand.proofs.fits.FitProgram.{IsProgramSet, IsStartSet, whole_fits}
+use Rattle.lb_expand.proofs.fits.FitWords.{AllSorted, AreVariablesOn, CallLefts, IsInstanceSet}
+use Rattle.lb_expand.proofs.fits.{FitWords.{IsSetAt, IsVariableOn, Sorts}, KindFacts.further_sorted}
+use Rattle.lb_expand.proofs.fits.KindFacts.{got_first, length-kinds_from, sorts_of}
+use Rattle.lb_expand.proofs.numbering.NumberedPlaces.{clock_on, is_laid_out, places_width}
+use Rattle.lb_expand.proofs.{numbering.NumberedPlaces.signs_are, solutions.Solving.all_closed}
+use Rattle.lb_expand.proofs.widths.TypeFacts.{bound}
+use Rattle.lb_flat.{proofs.solutions.StandingRuns.root_kept, specs.Fitting.{IsFitting, IsOf}}
+use Rattle.{lb_flat.specs.Fitting.binary_kind, lb_static.specs.Parts.{declared_sizes, own_sizes}}
 
 -- the equations of the temporaries
 abbrev pub further : Program → List FlatEquation
@@ -104,19 +103,6 @@ module _ (P : Program) (accepted : static_refusal P ≡ None) where
       further_sorted (input_kinds P) (element_values P (clock_on P)) (element_kinds P) (further P)
       (length_values P (clock_on P) ∙ sym (length_kinds P)) (rw (length_kinds P) closed.fresh)
 
-  -- `program_sorts` gives the first elements the clocks and kinds of their variables
-  pub clocks_first :
-      (i : ℕ) (k : FlatClock) → slice_get (element_values P (clock_on P)) i ≡ Some k →
-      (program_sorts P).clock_of i ≡ k
-  clocks_first i k e =
-      got_first Always k (element_values P (clock_on P)) (map (λ q. q.clock) (further P)) i e
-
-  pub kinds_first :
-      (i : ℕ) (l : Kind) → slice_get (element_kinds P) i ≡ Some l →
-      (program_sorts P).kind_of i ≡ l
-  kinds_first i l e =
-      got_first Int l (element_kinds P) (kinds_from (element_kinds P) (further P)) i e
-
   -- the program has as many kinds as elements
   pub all_kinds_counted :
       length (element_kinds P ++ kinds_from (element_kinds P) (further P))
@@ -129,14 +115,6 @@ module _ (P : Program) (accepted : static_refusal P ≡ None) where
       let next = closed.next in
       length-append (element_kinds P) (kinds_from (element_kinds P) (further P))
       ∙ omega (arith, first, more, next)
-
-  pub variable_kinds_taken :
-      take (expanded (layout P) P (length (program_elements P))).variables
-      (element_kinds P ++ kinds_from (element_kinds P) (further P))
-      ≡ element_kinds P
-  variable_kinds_taken =
-      take_at (element_kinds P) (kinds_from (element_kinds P) (further P))
-      (length (program_elements P)) (length_kinds P)
 
   -- ## The node under test and the observer
 

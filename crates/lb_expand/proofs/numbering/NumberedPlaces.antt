@@ -1,28 +1,28 @@
 -- The layout of an accepted program by numbers: places, elements and widths.
 use Rattle.lb_expand.proofs.Words
-use Words.{◌≡◌, ℕ, Bool, Option, Some, None, List, [], ◌∷◌, length, refl, ap, range_with_len, Every}
-use Words.{In, listed, Name, variables, width, Program, Instance, Path, instances, static_refusal}
-use Words.{Base, On, found_from, numbers_from, program_elements, WholeClock, serving, runs_on}
-use Words.{whole_clock, FlatClock, where_signed, flat_clock, numbered_clock, signs_of, layout}
-use Words.{clock_reads, ◌<◌, ◌≤◌, ◌++◌, get_or, ◌∙◌, arith, slice_get, Kind, Declaration}
-use Words.{declared_clock, element_kinds, property_path, Every-at, Every-from, instantiation_kept}
-use Words.{kinds_at_numbers, element_values, values_at_numbers, in_instances, property_places}
-use Words.{before_instances, expanded, inl, inr, suc, ◌+◌, true, false, cond, sym, find, bytes_eq}
-use Words.{length-range_with_len, bytes_eq-Decides, slice_get_within, same_Some, mapped_from}
-use Words.{are_distinct, variable_names, named, found_passes, Element, elements, elements_named}
-use Words.{number_of, find_in, variables_distinct, length_elements, length-map, Expr, DataType}
-use Words.{occurrences, Stream, Inputs, History, data_types, State, emit, column, history_of}
-use Words.{Always_whole, Where_whole, numbers_below, Layout}
-use Rattle.lb_check.specs.{Clocks.Clock, Elements.numbers_of}
+use Words.{Always_whole, Base, Bool, DataType, Declaration, Element, Every, Every-at, Every-from}
+use Words.{Expr, FlatClock, History, In, Inputs, Instance, Kind, Layout, List, Name, None, On}
+use Words.{Option, Path, Program, Some, State, Stream, Where_whole, WholeClock, [], ap}
+use Words.{are_distinct, arith, before_instances, bytes_eq, bytes_eq-Decides, clock_reads, column}
+use Words.{cond, data_types, declared_clock, element_kinds, element_values, elements}
+use Words.{elements_named, emit, expanded, false, find, find_in, flat_clock, found_from}
+use Words.{found_passes, get_or, history_of, in_instances, inl, inr, instances, instantiation_kept}
+use Words.{kinds_at_numbers, layout, length, length-map, length-range_with_len, length_elements}
+use Words.{listed, mapped_from, named, number_of, numbered_clock, numbers_below, numbers_from}
+use Words.{occurrences, program_elements, property_path, property_places, range_with_len, refl}
+use Words.{runs_on, same_Some, serving, signs_of, slice_get, slice_get_within, static_refusal, suc}
+use Words.{sym, true, values_at_numbers, variable_names, variables, variables_distinct}
+use Words.{where_signed, whole_clock, width, ℕ, ◌++◌, ◌+◌, ◌<◌, ◌∙◌, ◌∷◌, ◌≡◌, ◌≤◌}
 use Rattle.lb_check.proofs.programs.AcceptedElements.{numbers_walk, numbers_width, same_declaration}
-use Rattle.lb_check.proofs.programs.Numbers.{found_at, range_get, numbers_some}
-use Rattle.lb_flat.proofs.lists.Lists.{Every-first, Every-second, Every-map}
+use Rattle.lb_check.proofs.programs.Numbers.{found_at, numbers_some, range_get}
+use Rattle.lb_check.specs.{Clocks.Clock, Elements.numbers_of}
 use Rattle.lb_expand.proofs.{reads.LinkWords.Pairs, solutions.{Closing.Below, Solving.IsLaidOut}}
-use Rattle.lb_expand.proofs.solutions.Solving.{all_closed, IsVariablePlaced, IsPlacing}
-use Rattle.lb_expand.proofs.{solutions.Watching.{all_places, IsInOrder}, widths.FoundWidths.as_many}
+use Rattle.lb_expand.proofs.solutions.Solving.{IsPlacing, IsVariablePlaced, all_closed}
+use Rattle.lb_expand.proofs.{solutions.Watching.IsInOrder, widths.FoundWidths.as_many}
 use Rattle.lb_expand.proofs.widths.PropertyOutput.{output_width, property_of}
 use Rattle.lb_expand.proofs.widths.{TypeFacts.elements_in, Widths.AreVariablesWide}
 use Rattle.lb_expand.proofs.widths.Widths.{IsOccurrenceWide, wide}
+use Rattle.lb_flat.proofs.lists.Lists.{Every-first, Every-map, Every-second}
 
 -- The layout of an accepted program by numbers: the elements of variables are the first ones, in
 -- the order of instantiation, each variable has as many as it is wide, and clocks name no others.
@@ -86,22 +86,12 @@ module _ (P : Program) (accepted : static_refusal P ≡ None) where
   abbrev count : ℕ
   count = length (program_elements P)
 
-  -- the elements of variables are the first ones, in the order of instantiation
-  pub places_walk : all_places (layout P) P ≡ range_with_len 0 (length (program_elements P))
-  places_walk = numbers_walk P accepted
-
   -- each variable has as many elements as it is wide
   pub places_width :
       (here : Instance) → In here (instances P) →
       Every (λ d. length ((layout P).places here.path d.name) ≡ width P here d)
       (variables here.node)
   places_width here i = numbers_width P accepted here i
-
-  signs_below : (p : Path) (x : Name) → Below count (signs_of P p x)
-  signs_below p x =
-      listed_below count (numbers_of P (serving P p x).0 (serving P p x).1)
-      (found_from P 0 (instances P) p)
-      (numbers_below P accepted (serving P p x).0 (serving P p x).1)
 
   -- the elements that a clock reads are elements of variables
   pub numbered_below : (k : WholeClock) → Below count (clock_reads (numbered_clock P k))
@@ -114,7 +104,8 @@ module _ (P : Program) (accepted : static_refusal P ≡ None) where
   clocks_below p Base = numbered_below (runs_on P p)
   clocks_below p (On k x sign) =
       signed_below count (flat_clock (layout P) p k) sign (signs_of P p x) (clocks_below p k)
-      (signs_below p x)
+      (listed_below count (numbers_of P (serving P p x).0 (serving P p x).1) (found_from P 0
+      (instances P) p) (numbers_below P accepted (serving P p x).0 (serving P p x).1))
 
   -- the elements of variables and of clocks are the first ones
   pub is_laid_out : IsLaidOut (length (program_elements P)) (layout P)
@@ -203,7 +194,7 @@ module _ (P : Program) (accepted : static_refusal P ≡ None) where
   -- the elements of variables are the first ones, and the property has one
   pub is_in_order : IsInOrder (layout P) P (length (program_elements P))
   is_in_order = record {
-    variables = places_walk P accepted;
+    variables = numbers_walk P accepted;
     property = only_one (property_places (layout P) P) property_one;
   }
   -- ## Inputs

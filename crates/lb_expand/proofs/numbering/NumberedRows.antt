@@ -1,25 +1,24 @@
 -- The numbers that counting the rows of the table gives.
 use Rattle.lb_expand.proofs.Words
-use Words.{◌≡◌, ℕ, zero, suc, ◌+◌, true, false, List, [], ◌∷◌, ◌++◌, map, flat_map, take, get_or}
-use Words.{length, Some, None, option_map, refl, ap, ap₂, sym, ◌∙◌, subst, arith, slice_get}
-use Words.{bytes_eq, range_with_len, length-append, sum_by-append, sum_by-cons}
-use Words.{get_or_from_slice_get, same_Some, ltb-true, Every, In, either_or, listed, zip2, Name}
-use Words.{Static, Declaration, item_at, element_count, variables, width, Program, Instance, Path}
-use Words.{is_path, instances, static_value, static_refusal, IsTable, IsSpecialized, instance_of}
-use Words.{are_distinct, variable_names, IsReached, source_names, IsResolved, node_of, counts_of}
-use Words.{declaration_of, is_variable, Reached, ResolvedNode, VariableId, Specialization, Table}
-use Words.{in_at, instance_elements, found_from, numbers_from, elements, name_in, Every-at}
-use Words.{get_name, values_at, declared_is, variables_distinct, same_path, same_instance}
-use Words.{instances_apart, get_mapped, sum_of, declared_width, widths_in, first_of_row}
-use Words.{row_numbers, flat_map-append, append-nil, length-map, take_more, slice_get_within}
-use Words.{Every-from, variables_before, element_total, count_at, ℤ, ◌<◌, ◌≤◌, Declared, AreApart}
-use Words.{length_elements}
-use Rattle.{std.proofs.lemmas.Bool.false_from_ne_true, lb_check.specs.Elements.numbers_of}
-use Rattle.lb_check.proofs.programs.{InstancePaths.{IsAt, all_at}, Numbers.numbers_first}
-use Rattle.lb_check.proofs.programs.Numbers.{numbers_later, others, distinct_rest, found_first}
-use Rattle.lb_check.proofs.{programs.Numbers.{found_later, numbers_at}, typing.FittedTypes.node_at}
-use Rattle.lb_check.proofs.typing.PositiveTypes.{width_positive}
-use Rattle.lb_expand.proofs.numbering.RowInstances.{IsRow, rows_many, row_shown}
+use Words.{AreApart, Declaration, Declared, Every, Every-at, Every-from, In, Instance, IsReached}
+use Words.{IsResolved, IsSpecialized, IsTable, List, Name, None, Path, Program, Reached}
+use Words.{ResolvedNode, Some, Specialization, Static, Table, VariableId, [], ap, append-nil, ap₂}
+use Words.{are_distinct, arith, bytes_eq, count_at, counts_of, declaration_of, declared_is}
+use Words.{declared_width, either_or, element_count, elements, false, first_of_row, flat_map}
+use Words.{flat_map-append, found_from, get_mapped, get_name, get_or, get_or_from_slice_get, in_at}
+use Words.{instance_elements, instance_of, instances, instances_apart, is_path, is_variable}
+use Words.{item_at, length, length-append, length-map, length_elements, listed, ltb-true, map}
+use Words.{name_in, node_of, numbers_from, option_map, range_with_len, refl, row_numbers, same_Some}
+use Words.{same_instance, same_path, slice_get, slice_get_within, source_names, static_refusal}
+use Words.{static_value, subst, suc, sum_by-append, sum_by-cons, sum_of, sym, take, take_more, true}
+use Words.{values_at, variable_names, variables, variables_before, variables_distinct, width}
+use Words.{widths_in, zero, zip2, ℕ, ℤ, ◌++◌, ◌+◌, ◌-◌, ◌<◌, ◌∙◌, ◌∷◌, ◌≡◌, ◌≤◌}
+use Rattle.lb_check.proofs.programs.{InstancePaths.{IsAt, all_at}, Numbers.distinct_rest}
+use Rattle.lb_check.proofs.programs.Numbers.{found_first, found_later, numbers_at, numbers_first}
+use Rattle.lb_check.proofs.{programs.Numbers.{numbers_later, others}, typing.FittedTypes.node_at}
+use Rattle.lb_check.{proofs.typing.PositiveTypes.width_positive, specs.Elements.numbers_of}
+use Rattle.lb_expand.proofs.numbering.RowInstances.{IsRow, row_shown, rows_many}
+use Rattle.std.proofs.lemmas.Bool.{false_from_ne_true}
 use Rattle.lb_static.specs.declared.table.Instance as row
 
 -- The numbers that counting the rows of the table gives are the numbers of elements.
@@ -316,7 +315,7 @@ module _ (P : Program) (r : Reached) (t : Table) (reached : IsReached P r)
       ap length (row_widths_are P r t reached table k i here is)
       ∙ length-map (variables here.node) (width P here)
 
-  row_narrow :
+  pub row_narrow :
       (k : ℕ) (i : row.Instance) → slice_get t.instances.items k ≡ Some i →
       length (widths_in r t i) ≤ sum_of (widths_in r t i)
   row_narrow k i at =
@@ -327,10 +326,6 @@ module _ (P : Program) (r : Reached) (t : Table) (reached : IsReached P r)
       (λ d on. width_positive P accepted here stands d on) in
       rw (row_widths_are P r t reached table k i here s.1) (some_wide (width P here) (variables
       here.node) some)
-
-  -- there are no more variables before a row than elements in all
-  pub variables_few : (k : ℕ) → variables_before r t k ≤ element_total r t
-  variables_few k = pieces_narrow (widths_in r t) t.instances.items row_narrow k
 
   module _ (held_variables : List ℕ)
       (kept : (j : ℕ) → j ≤ length t.instances.items →
@@ -365,15 +360,19 @@ module _ (P : Program) (r : Reached) (t : Table) (reached : IsReached P r)
         let own = row_count k i.0 s.0 s.1 in
         omega (arith, next, own)
 
-    -- no more variables stand before row j than before row j + d
+    -- no more variables stand before an earlier row than before a later one
     pub before_later :
-        (j d : ℕ) → j + d ≤ length t.instances.items →
-        get_or held_variables j 0 ≤ get_or held_variables (j + d) 0
-    before_later j zero le =
-        let same : j ≡ j + 0 = omega arith in
-        subst (λ m. get_or held_variables j 0 ≤ get_or held_variables m 0) same (omega arith)
-    before_later j (suc d) le =
-        let up = before_later j d (omega (arith, le)) in
-        let next = count_next (j + d) (omega (arith, le)) in
-        let same : (j + d) + 1 ≡ j + suc d = omega arith in
-        rw (← same) (omega (arith, up, next))
+        (j k : ℕ) → j ≤ k → k ≤ length t.instances.items →
+        get_or held_variables j 0 ≤ get_or held_variables k 0
+    before_later j k le within = by (k - j) k (omega (arith, le)) within
+      where
+        by : (d k : ℕ) → j + d ≡ k → k ≤ length t.instances.items →
+            get_or held_variables j 0 ≤ get_or held_variables k 0
+        by zero k e within =
+            let same : j ≡ k = omega (arith, e) in
+            subst (λ m. get_or held_variables j 0 ≤ get_or held_variables m 0) same (omega arith)
+        by (suc d) k e within =
+            let up = by d (j + d) refl (omega (arith, e, within)) in
+            let next = count_next (j + d) (omega (arith, e, within)) in
+            let same : (j + d) + 1 ≡ k = omega (arith, e) in
+            rw (← same) (omega (arith, up, next))

@@ -91,8 +91,7 @@ part_copied :
     copied ts (drop (length ts * i) (is ++ rest)) ≡ copied ts (part m i is)
 part_copied ts m i is rest lt e =
     let w = length ts in
-    let own : length is / m ≡ w =
-    ap (λ l. l / m) e ∙ mul-div_cancel_left w (omega (arith, lt)) in
+    let own : length is / m ≡ w = ap (λ l. l / m) e ∙ mul-div_cancel_left w (omega (arith, lt)) in
     let within : i + 1 ≤ m = omega (arith, lt) in
     let bound = mul-le-mul_right w within in
     let from = length-drop (w * i) is in

@@ -71,8 +71,7 @@ place_found test (y ∷ xs) (suc k) x e h = by (test y) refl (place_found test x
   where
     by : (b : Bool) → test y ≡ b → (j : ℕ) × (place_where test xs ≡ Some j) →
         (j : ℕ) × (place_where test (y ∷ xs) ≡ Some j)
-    by true is again =
-        (0, ap (λ b. if b then Some 0 else option_map suc (place_where test xs)) is)
+    by true is again = (0, ap (λ b. if b then Some 0 else option_map suc (place_where test xs)) is)
     by false is again = (
       suc again.0,
       ap (λ b. if b then Some 0 else option_map suc (place_where test xs)) is

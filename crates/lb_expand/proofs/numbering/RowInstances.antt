@@ -81,8 +81,7 @@ module _ (P : Program) (r : Reached) (t : Table) (table : IsTable P r t) where
   origin_path k i e caller call index is =
       let at = stands_after [] t.instances.items k i e in
       let count : 0 + k ≡ k = omega arith in
-      let lower : caller.0 < k =
-      subst (CallerStandsBefore k) is (table.before k i e) in
+      let lower : caller.0 < k = subst (CallerStandsBefore k) is (table.before k i e) in
       let long = at.long in
       let there = item_at at.front caller.0 (omega (arith, long, lower)) in
       record {

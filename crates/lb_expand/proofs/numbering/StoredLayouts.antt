@@ -73,8 +73,7 @@ sums_at n (w ∷ ws) (suc k) le =
     let more = sum_cons w (take k ws) in omega (arith, more) in
     sums_at (n + w) ws k (omega arith) ∙ e
 
-sums_past :
-    (n : ℕ) (ws : List ℕ) (k : ℕ) → length ws < k → get_or (n ∷ sums_after n ws) k 0 ≡ 0
+sums_past : (n : ℕ) (ws : List ℕ) (k : ℕ) → length ws < k → get_or (n ∷ sums_after n ws) k 0 ≡ 0
 sums_past n ws k lt =
     let long = length_sums n ws in past_end (n ∷ sums_after n ws) k (omega (arith, long, lt))
 

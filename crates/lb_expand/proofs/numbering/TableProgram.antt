@@ -1,28 +1,28 @@
 -- The flat program of all instances is emitted from the rows of the table; the scalars in them are
 -- `int`s.
 use Rattle.lb_expand.proofs.Words
-use Words.{◌≡◌, ◌⊎◌, inl, inr, true, false, ℤ, pos, Option, Some, None, option_map, List, refl, sym}
-use Words.{ap, ◌∙◌, BinaryOperator, Int, Every, either_or, holds, Symbol, Expr, Literal, Variable}
-use Words.{Iterate, is_int, DataType, int, variable_type, Program, Instance, name_value}
-use Words.{static_count, instances, static_refusal, check_refusal, node_occurrences, or_fault}
-use Words.{data_types, constant_type, singly, operator_types, is_arithmetic, is_logical, Every-map}
-use Words.{HasTypes, occurrences_typed, ◌≤◌, ℕ, suc, ◌+◌, [], ◌∷◌, ◌++◌, length, subst, arith}
-use Words.{slice_get, nat_le, nat_tests, slice_get-map, slice_get_within, same_Some, Name, Static}
-use Words.{Named, Declaration, Node, input_kinds, variables, IsTable, are_distinct, among}
-use Words.{clock_names, variable_names, IsReached, source_names, IsResolved, counts_of, node_of}
-use Words.{is_no_variable, is_variable, Reached, ResolvedStatement, Table, in_at, declared_clock}
-use Words.{element_kinds, Occurrence, name_in, Every-at, variables_distinct, clocks_named, is_among}
-use Words.{State, emit_body, emit_instances, expanded, bodies, body_in, with_body, Context}
-use Words.{emit_rows, emit_statements, first_place, whole, flat_clock, layout, RowClocks}
-use Words.{row_context, class_of, Truth_kind, OperatorClass, Logical, class_on_truths}
-use Rattle.{lb_syntax.specs.Operators.is_class, lb_flat.specs.Fitting.{IsOf, binary_kind}}
+use Words.{BinaryOperator, Context, DataType, Declaration, Every, Every-at, Every-map, Expr}
+use Words.{HasTypes, Instance, Int, IsReached, IsResolved, IsTable, Iterate, List, Literal, Logical}
+use Words.{Name, Named, Node, None, Occurrence, OperatorClass, Option, PlacedState, Program}
+use Words.{Reached, RowClocks, Some, State, Static, Symbol, Table, Truth_kind, Variable, [], among}
+use Words.{ap, are_distinct, arith, bodies, body_in, check_refusal, class_of, class_on_truths}
+use Words.{clock_names, clocks_named, constant_type, counts_of, data_types, declared_clock}
+use Words.{either_or, element_kinds, emit_body, emit_instances, emit_rows, expanded, false}
+use Words.{flat_clock, holds, in_at, inl, input_kinds, inr, instances, int, is_among, is_arithmetic}
+use Words.{is_int, is_logical, is_no_variable, is_variable, layout, length, name_in, name_value}
+use Words.{nat_le, nat_tests, node_occurrences, node_of, occurrences_typed, operator_types}
+use Words.{option_map, or_fault, pos, refl, row_context, same_Some, singly, slice_get}
+use Words.{slice_get-map, slice_get_within, source_names, static_count, static_refusal, subst, suc}
+use Words.{sym, true, variable_names, variable_type, variables, variables_distinct, whole}
+use Words.{with_body, ℕ, ℤ, ◌++◌, ◌+◌, ◌∙◌, ◌∷◌, ◌≡◌, ◌≤◌, ◌⊎◌}
 use Rattle.lb_expand.proofs.clock_tables.ServingClocks.{serves_by_number}
-use Rattle.lb_expand.proofs.emission.EmittedTable.{IsRowContext, row_body_is}
-use Rattle.lb_expand.proofs.emission.{EmittedTerms.IsSmall, EmittedWhole.{HasVariables, whole_is}}
-use Rattle.lb_expand.proofs.frames.RowContexts.{own_resolved, AreRowClocks, context_is}
-use Rattle.lb_expand.proofs.numbering.{NumberedFits.{IsScalarAt, AreScalars}, RowInstances.IsRow}
+use Rattle.lb_expand.proofs.emission.{EmittedTable.{IsRowContext, row_is}, EmittedTerms.IsSmall}
+use Rattle.lb_expand.proofs.emission.EmittedWhole.{HasVariables, whole_is}
+use Rattle.lb_expand.proofs.frames.RowContexts.{AreRowClocks, context_is, own_resolved}
+use Rattle.lb_expand.proofs.numbering.{NumberedFits.{AreScalars, IsScalarAt}, RowInstances.IsRow}
 use Rattle.lb_expand.proofs.{numbering.RowInstances.{row_shown, rows_many}, widths.TypeFacts.bound}
-use Rattle.lb_expand.proofs.widths.TypeFacts.{constant, symbolic}
+use Rattle.{lb_expand.proofs.widths.TypeFacts.{constant, symbolic}, lb_flat.specs.Fitting.IsOf}
+use Rattle.{lb_flat.specs.Fitting.binary_kind, lb_syntax.specs.Operators.is_class}
 use Rattle.lb_syntax.specs.Tree as tree
 use Rattle.lb_static.specs.declared.table.Instance as row
 
@@ -130,41 +130,13 @@ module _ (P : Program) (accepted : static_refusal P ≡ None) (checked : check_r
         body_in r t cs k i ≡ with_body (cs k) is.node
     body_first k i here is = cc (is.specialized, is.resolved)
 
-    emitted_first :
-        (s : State) (c : Context) (ss : List ResolvedStatement)
-        (rest : List (Context × List ResolvedStatement)) →
-        emit_rows s ((c, ss) ∷ rest)
-        ≡ emit_rows (emit_statements c first_place s ss).state rest
-    unfolding emit_rows
-    emitted_first s c ss rest = refl
-
-    emitted_instance :
-        (s : State) (here : Instance) (is : List Instance) →
-        emit_instances (layout P) P s (here ∷ is)
-        ≡ emit_instances (layout P) P (emit_body (layout P) P here 0 s here.node.body) is
-    unfolding emit_instances
-    emitted_instance s here is = refl
-
-    emitted_none : (s : State) (j : ℕ) → emit_rows s (bodies r t cs j []) ≡ s
-    unfolding emit_rows bodies
-    emitted_none s j = refl
-
-    emitted_nowhere : (s : State) → emit_instances (layout P) P s [] ≡ s
-    unfolding emit_instances
-    emitted_nowhere s = refl
-
-    next_bodies :
-        (j : ℕ) (i : row.Instance) (rows : List row.Instance) →
-        bodies r t cs j (i ∷ rows) ≡ body_in r t cs j i ++ bodies r t cs (suc j) rows
-    unfolding bodies
-    next_bodies j i rows = refl
-
     rows_from :
         (j : ℕ) (rows : List row.Instance) (is : List Instance) → length rows ≡ length is →
         ((k : ℕ) (i : row.Instance) (here : Instance) → slice_get rows k ≡ Some i →
         slice_get is k ≡ Some here → IsRow P r t table (j + k) i here) → (s : State) →
         emit_rows s (bodies r t cs j rows) ≡ emit_instances (layout P) P s is
-    rows_from j [] [] long each s = emitted_none s j ∙ sym (emitted_nowhere s)
+    unfolding emit_rows emit_instances bodies
+    rows_from j [] [] long each s = refl
     rows_from j [] (here ∷ is) long each s = absurd (omega (arith, long))
     rows_from j (i ∷ rows) [] long each s = absurd (omega (arith, long))
     rows_from j (i ∷ rows) (here ∷ is) long each s =
@@ -176,12 +148,11 @@ module _ (P : Program) (accepted : static_refusal P ≡ None) (checked : check_r
         let next : j + suc k ≡ suc j + k = omega arith in
         subst (λ m. IsRow P r t table m l there) next (each (suc k) l there p q))
         (emit_body (layout P) P here 0 s here.node.body) in
-        ap (emit_rows s) (next_bodies j i rows ∙ ap (λ l. l ++ rest) (body_first j i here own))
-        ∙ (emitted_first s (cs j) own.node.body.items rest
-        ∙ (ap (λ z. emit_rows z rest)
-        (row_body_is P accepted checked (literals_small P accepted checked) r t reached table j i
-        here own (cs j) (contexts j i here own) s)
-        ∙ (later ∙ sym (emitted_instance s here is))))
+        ap (λ l. emit_rows s (l ++ rest)) (body_first j i here own)
+        ∙ ap (λ (z : PlacedState). emit_rows z.state rest)
+        (row_is P accepted checked (literals_small P accepted checked) r t reached table j i here
+        own (cs j) (contexts j i here own) s)
+        ∙ later
 
     -- emitting all rows is emitting all instances
     pub rows_are :

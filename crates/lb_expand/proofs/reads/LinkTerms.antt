@@ -1,43 +1,41 @@
 -- The found elements of an expression come from the elements of the variables that it needs,
 -- element by element, or are left by what its clock reads.
 use Rattle.lb_expand.proofs.Words
-use Words.{found_name, ◌≡◌, ℕ, suc, ◌+◌, ◌-◌, ◌*◌, ◌<◌, true, false, pos, Option, Some, None, List}
-use Words.{[], ◌∷◌, ◌++◌, map, length, flat_map, refl, sym, ap, ◌∙◌, subst, arith, list_all}
-use Words.{length-map, same_Some, Not, BinaryOperator, ArrayIterator, Map, Red, Fill, ◌>>=◌, Every}
-use Words.{In, zip2, joined, either_or, listed, Name, Static, Node_named, Symbol, Expr, Literal}
-use Words.{Truth, Variable, Group, Unary, Binary, If, Arrow, Fby, Pre, Current, When, Replicate}
-use Words.{Index, Slice, Join, Array, AtMostOne, Nor, Call, Iterate, Exprs, Nil, Cons, Declaration}
-use Words.{and_first, named, Program, Instance, Path, Child, call_site, callee_of, static_count}
-use Words.{DataType, truth, variables, is_type, data_types, all_types, from_one, from_truths}
-use Words.{common_type, array_of, index_type, slice_type, join_type, operator_types, Integer}
-use Words.{Boolean, first_value, Element, elements, elements_named, itself, both, needs, all_needs}
-use Words.{output_elements, waits_for, Occurrence, at, call_count, occurrences, occurrences_in}
-use Words.{History, number, part_count, outputs_of, iterated, first_of_all, FlatClock, Operation}
-use Words.{Constant, ApplyUnary, ApplyBinary, FirstThen, Previous, Latest, Sample, clock_reads}
-use Words.{reads, Layout, flat_clock, State, Emitted, EmittedAll, add, keep, push, chosen_by}
-use Words.{chained, negated, emit_symbol, emit_name, emit, emit_all, emit_each, On, clock_or}
-use Words.{declared_clock}
-use Rattle.lb_check.specs.Clocks.{Clock, clock_of}
-use Rattle.lb_flat.proofs.lists.Lists.{Every-append, Every-take, Every-drop, Every-copies}
-use Rattle.lb_flat.proofs.lists.Lists.{Every-joined, Every-first, Every-second}
-use Rattle.lb_expand.proofs.emission.EmissionSteps.{IsStep, Any, any_joined, symbol_step, emit_step}
-use Rattle.lb_expand.proofs.emission.EmissionSteps.{all_step, each_step}
-use Rattle.lb_expand.proofs.reads.LinkSymbols.{iterated_pairs, keep_found, keep_equations}
-use Rattle.lb_expand.proofs.reads.LinkSymbols.{joins_found, symbol_out, signed_wider}
-use Rattle.lb_expand.proofs.reads.LinkSymbols.{map_linked, red_linked}
-use Rattle.lb_expand.proofs.reads.LinkWords.{Pairs, pairs-append, pairs-take, pairs-drop}
-use Rattle.lb_expand.proofs.reads.LinkWords.{pairs-copies, pairs-joined, AllMeet, AreLinks, Link}
-use Rattle.lb_expand.proofs.reads.LinkWords.{New, Waits, Gives, step, all_links, variable_links}
-use Rattle.lb_expand.proofs.reads.LinkWords.{added, each_one, each_two, each_choice, each_first}
-use Rattle.lb_expand.proofs.reads.LinkWords.{memories, each_memory, each_constant, each_latest}
-use Rattle.lb_expand.proofs.reads.LinkWords.{each_sample, pushed, chained_gives, nor_gives}
-use Rattle.lb_expand.proofs.reads.LinkWords.{at_most_one_gives, passed}
-use Rattle.lb_expand.proofs.solutions.Emission.{joins_equations}
-use Rattle.lb_expand.proofs.widths.FoundWidths.{as_many, add_count}
-use Rattle.lb_expand.proofs.widths.TypeFacts.{elements_in, bound, one, two, from_true, alike}
-use Rattle.lb_expand.proofs.widths.TypeFacts.{truth_is, red_of}
-use Rattle.lb_expand.proofs.widths.Widths.{called, placed, AreVariablesWide, IsOccurrenceWide, wide}
-use Rattle.lb_expand.proofs.widths.Widths.{IsTypedAt}
+use Words.{ApplyBinary, ApplyUnary, Array, ArrayIterator, Arrow, AtMostOne, Binary, BinaryOperator}
+use Words.{Boolean, Call, Child, Cons, Constant, Current, DataType, Declaration, Element, Emitted}
+use Words.{EmittedAll, Every, Expr, Exprs, Fby, Fill, FirstThen, FlatClock, Group, History, If, In}
+use Words.{Index, Instance, Integer, Iterate, Join, Latest, Layout, List, Literal, Map, Name, Nil}
+use Words.{Node_named, None, Nor, Not, Occurrence, On, Operation, Option, Path, Pre, Previous}
+use Words.{Program, Red, Replicate, Sample, Slice, Some, State, Static, Symbol, Truth, Unary}
+use Words.{Variable, When, [], add, all_needs, all_types, and_first, ap, arith, array_of, at, both}
+use Words.{call_count, call_site, callee_of, chained, chosen_by, clock_or, clock_reads, common_type}
+use Words.{data_types, declared_clock, either_or, elements, elements_named, emit, emit_all}
+use Words.{emit_each, emit_name, emit_symbol, false, first_of_all, first_value, flat_clock}
+use Words.{flat_map, found_name, from_one, from_truths, index_type, is_type, iterated, itself}
+use Words.{join_type, joined, keep, length, length-map, list_all, listed, map, named, needs}
+use Words.{negated, number, occurrences, occurrences_in, operator_types, output_elements}
+use Words.{outputs_of, part_count, pos, push, reads, refl, same_Some, slice_type, static_count}
+use Words.{subst, suc, sym, true, truth, variables, waits_for, zip2, ℕ, ◌*◌, ◌++◌, ◌+◌, ◌-◌, ◌<◌}
+use Words.{◌>>=◌, ◌∙◌, ◌∷◌, ◌≡◌}
+use Rattle.{lb_check.specs.Clocks.{Clock, clock_of}, lb_expand.proofs.emission.EmissionSteps.Any}
+use Rattle.lb_expand.proofs.emission.EmissionSteps.{IsStep, all_step, any_joined, each_step}
+use Rattle.lb_expand.proofs.emission.EmissionSteps.{emit_step, symbol_step}
+use Rattle.lb_expand.proofs.reads.LinkSymbols.{iterated_pairs, joins_found, keep_equations}
+use Rattle.lb_expand.proofs.reads.LinkSymbols.{keep_found, map_linked, red_linked, signed_wider}
+use Rattle.lb_expand.proofs.reads.{LinkSymbols.symbol_out, LinkWords.{AllMeet, AreLinks, Gives}}
+use Rattle.lb_expand.proofs.reads.LinkWords.{Link, New, Pairs, Waits, added, all_links}
+use Rattle.lb_expand.proofs.reads.LinkWords.{at_most_one_gives, chained_gives, each_choice}
+use Rattle.lb_expand.proofs.reads.LinkWords.{each_constant, each_first, each_latest, each_memory}
+use Rattle.lb_expand.proofs.reads.LinkWords.{each_one, each_sample, each_two, memories, nor_gives}
+use Rattle.lb_expand.proofs.reads.LinkWords.{pairs-append, pairs-copies, pairs-drop, pairs-joined}
+use Rattle.lb_expand.proofs.reads.LinkWords.{pairs-take, passed, pushed, step, variable_links}
+use Rattle.lb_expand.proofs.{solutions.Emission.joins_equations, widths.FoundWidths.add_count}
+use Rattle.lb_expand.proofs.widths.{FoundWidths.as_many, TypeFacts.{alike, bound, elements_in}}
+use Rattle.lb_expand.proofs.widths.TypeFacts.{from_true, one, red_of, truth_is, two}
+use Rattle.lb_expand.proofs.widths.Widths.{AreVariablesWide, IsOccurrenceWide, IsTypedAt, called}
+use Rattle.{lb_expand.proofs.widths.Widths.{placed, wide}, lb_flat.proofs.lists.Lists.Every-append}
+use Rattle.lb_flat.proofs.lists.Lists.{Every-copies, Every-drop, Every-first, Every-joined}
+use Rattle.lb_flat.proofs.lists.Lists.{Every-second, Every-take}
 
 module _ (Y : Layout) (P : Program) (H : History)
     (same : (p : Path) (x : Name) → length (Y.places p x) ≡ length (H.columns p x))
@@ -391,8 +389,7 @@ module _ (Y : Layout) (P : Program) (H : History)
           (k : Clock) (n : ℕ) (s : State) (e : Expr) → Parts (occurrences P here.node k n e) →
           Met (emit Y P here k n s e).state →
           AreLinks IsAt Under Left (flat k) (emit Y P here k n s e).found (needs P here n e)
-      linked k n s (Literal m) p h =
-          constant_linked (flat k) s (Constant (Integer (pos m))) refl h
+      linked k n s (Literal m) p h = constant_linked (flat k) s (Constant (Integer (pos m))) refl h
       linked k n s (Truth b) p h = constant_linked (flat k) s (Constant (Boolean b)) refl h
       linked k n s (Variable x) p h =
           name_linked k s x (named (λ d. d.name) x (variables here.node)) refl numbered h

@@ -1,15 +1,15 @@
 -- What the found elements of an expression come from, along the equations that the small words of
 -- expansion emit on a clock: the elements of variables that each needs.
 use Rattle.lb_expand.proofs.Words
-use Words.{◌≡◌, ◌⊎◌, inl, inr, ℕ, zero, suc, false, List, [], ◌∷◌, ◌++◌, map, length, take, drop}
-use Words.{flat_map, refl, sym, ap, subst, arith, Not, BinaryOperator, Or, And, Every, In, zip2}
-use Words.{copies, joined, Boolean, Element, both, itself, FlatClock, Operation, Constant}
-use Words.{ApplyUnary, ApplyBinary, Choose, FlatEquation, clock_reads, reads, equation_reads, State}
-use Words.{Emitted, numbered, numbers, add, chosen_by, push, chained, twice, negated, emit_nor}
-use Words.{emit_at_most_one, append-nil}
-use Rattle.{std.proofs.lemmas.List.map-id, lb_syntax.specs.Lists.heads}
-use Rattle.lb_flat.proofs.lists.Lists.{Every-append, Every-first, Every-second}
+use Words.{And, ApplyBinary, ApplyUnary, BinaryOperator, Boolean, Choose, Constant, Element}
+use Words.{Emitted, Every, FlatClock, FlatEquation, In, List, Not, Operation, Or, State, [], add}
+use Words.{ap, append-nil, arith, both, chained, chosen_by, clock_reads, copies, drop}
+use Words.{emit_at_most_one, emit_nor, equation_reads, false, flat_map, inl, inr, itself, joined}
+use Words.{length, map, negated, numbered, numbers, push, reads, refl, subst, suc, sym, take, twice}
+use Words.{zero, zip2, ℕ, ◌++◌, ◌∷◌, ◌≡◌, ◌⊎◌}
 use Rattle.lb_expand.proofs.lists.Lists.{SomeOf, some_first, some_second, some_split}
+use Rattle.lb_flat.proofs.lists.Lists.{Every-append, Every-first, Every-second}
+use Rattle.{lb_syntax.specs.Lists.heads, std.proofs.lemmas.List.map-id}
 
 -- ## Two lists side by side
 
@@ -84,8 +84,7 @@ none_back : {I K R : Type 0} → (I → ⊥ ⊎ K) → (I ⊎ (I ⊎ R)) ⊎ K �
 none_back a g = grind (arith, a)
 
 -- `fby` is `Left` where its initial value is, since a memory is so by its clock alone
-first_back :
-    {I J K Y : Type 0} → (I → Y ⊎ K) → (J → ⊥ ⊎ K) → (I ⊎ (J ⊎ ⊥)) ⊎ K → Y ⊎ K
+first_back : {I J K Y : Type 0} → (I → Y ⊎ K) → (J → ⊥ ⊎ K) → (I ⊎ (J ⊎ ⊥)) ⊎ K → Y ⊎ K
 first_back a b g = grind (arith, a, b)
 
 -- where `Under t` holds of an element, it holds of all that the element comes from; an element that
@@ -317,8 +316,7 @@ module _ (IsAt : Element → ℕ → Type 0) (Under : ℕ → ℕ → Type 0) (L
         (f : ℕ → Operation) → ((i : ℕ) → reads (f i) ≡ []) → (js is : List ℕ) →
         Pairs (New k) js (map f is) → Every (λ i. Comes k i []) js
     memories f e [] [] n = tt
-    memories f e (j ∷ js) (i ∷ is) n =
-        (subst (Comes k j) (e i) n.0.comes, memories f e js is n.1)
+    memories f e (j ∷ js) (i ∷ is) n = (subst (Comes k j) (e i) n.0.comes, memories f e js is n.1)
     memories f e _ _ n = absurd n
 
     pub each_memory :
@@ -335,8 +333,7 @@ module _ (IsAt : Element → ℕ → Type 0) (Under : ℕ → ℕ → Type 0) (L
     pub each_constant :
         (o : Operation) → reads o ≡ [] → (js : List ℕ) → Pairs (New k) js (o ∷ []) →
         AreLinks k js ([] ∷ [])
-    each_constant o e (j ∷ []) n =
-        (step k j [] [] (subst (Comes k j) e n.0.comes) (no_links k), tt)
+    each_constant o e (j ∷ []) n = (step k j [] [] (subst (Comes k j) e n.0.comes) (no_links k), tt)
     each_constant o e _ n = search
 
     -- ## A clock that is passed
@@ -365,8 +362,7 @@ module _ (IsAt : Element → ℕ → Type 0) (Under : ℕ → ℕ → Type 0) (L
             (ys : List Element) → Every (λ y. (i : ℕ) × In i (clock_reads l) × IsAt y i) ys →
             (t : ℕ) → Every (Under t) (clock_reads l) → Every (Has (Under t)) ys
         from [] h t u = tt
-        from (y ∷ ys) h t u =
-            ((h.0.0, h.0.2, at t h.0.0 (clock_reads l) u h.0.1), from ys h.1 t u)
+        from (y ∷ ys) h t u = ((h.0.0, h.0.2, at t h.0.0 (clock_reads l) u h.0.1), from ys h.1 t u)
 
         among : (y : Element) (ys : List Element) → In y ys → Has Left y → SomeOf (Has Left) ys
         among y [] j g = absurd j
@@ -436,9 +432,6 @@ module _ (IsAt : Element → ℕ → Type 0) (Under : ℕ → ℕ → Type 0) (L
     pub comes : Comes k element is
 
   module _ (k : FlatClock) where
-    abbrev FromClock : Type 0
-    FromClock = SomeOf Left (clock_reads k)
-
     pub chained_gives :
         (op : BinaryOperator) (s : State) (init : ℕ) (ys : List ℕ) →
         AllMeet (chained k op s init ys).state.equations →
@@ -466,7 +459,7 @@ module _ (IsAt : Element → ℕ → Type 0) (Under : ℕ → ℕ → Type 0) (L
       element : ℕ
       is_found : r.found ≡ element ∷ []
       there : (t : ℕ) → Under t element → Every (Under t) (two ∷ is)
-      back : Left element → SomeOf Left (two ∷ (any ∷ is)) ⊎ FromClock
+      back : Left element → SomeOf Left (two ∷ (any ∷ is)) ⊎ (SomeOf Left (clock_reads k))
 
     twice_counted :
         (s : State) (any two : ℕ) (is : List ℕ) →

@@ -278,12 +278,6 @@ module _ (P : Program) (accepted : static_refusal P ≡ None) (checked : check_r
     abbrev Under : ℕ → ℕ → Type 0
     Under t i = ⊥
 
-    further_in : (q : FlatEquation) → In q final.equations → In q f.equations
-    further_in q i =
-        in_second q (given_inputs Y (instance_at P Root)) _
-        (in_second q (observed Y (instance_at P Root) (instance_at P Observer)) _
-        (in_second q final.copies final.equations i))
-
     further_high : (q : FlatEquation) → In q final.equations → count ≤ q.element
     further_high q i =
         fresh_high count final.equations (start_closed count Y P (is_laid_out P accepted)).fresh q i
@@ -292,7 +286,9 @@ module _ (P : Program) (accepted : static_refusal P ≡ None) (checked : check_r
     met =
         Every-from (Meets IsAt Under Left) final.equations (λ q i. record {
           there = λ t u. absurd u;
-          back = λ g. passes q (further_in q i) (further_high q i) g;
+          back = λ g. passes q (in_second q (given_inputs Y (instance_at P Root)) _ (in_second q
+              (observed Y (instance_at P Root) (instance_at P Observer)) _ (in_second q final.copies
+              final.equations i))) (further_high q i) g;
         })
 
     runs : (c : Instance) → In c (instances P) → AreRunAt P Under c

@@ -1,30 +1,29 @@
 -- In the layout by numbers, what an element needs it reads.
 use Rattle.lb_expand.proofs.Words
-use Words.{◌≡◌, ◌⊎◌, inl, inr, ℕ, ◌<◌, Some, None, IfSome, List, [], ◌∷◌, ◌++◌, length, flat_map}
-use Words.{refl, sym, ap, ◌∙◌, subst, arith, slice_get, slice_get_within, Every, In, Declaration}
-use Words.{variables, Program, Instance, Root, Observer, instance_at, instances, static_refusal}
-use Words.{map_in, check_refusal, declared_clock, program_elements, Element, Definition, elements}
-use Words.{definitions_at, observer_definitions, equation_definitions, call_definitions}
-use Words.{clock_definitions, waits_for, Needs, statements, node_occurrences, columns_at}
-use Words.{numbers_below, in_first, in_second, in_either, Every-at, Every-from, of_pieces}
-use Words.{to_pieces, HasReads, FlatClock, FlatEquation, history_of, IsGiven, FlatProgram, Layout}
-use Words.{layout, Chain, one_read, more_reads, clock_reads, reads, equation_reads, State}
-use Words.{before_instances, emit_instances, given_inputs, observed, expanded, input_kinds}
-use Words.{declared_over, IsVariable, own_variables, Leads, NeedsAt}
-use Rattle.{lb_check.specs.Elements.numbers_of, lb_flat.specs.Fitting.ClockFits}
-use Rattle.lb_flat.proofs.lists.Lists.{Every-second, Every-map}
-use Rattle.lb_expand.proofs.clock_tables.KnownClocks.{waits_read, clocks_known}
-use Rattle.lb_expand.proofs.copies.CopiedCalls.{IsDefinedBy}
-use Rattle.lb_expand.proofs.copies.CopiedProgram.{made, copies_defined, same, AreClocksKnown}
-use Rattle.lb_expand.proofs.{copies.GivenProgram.given_whole, fits.FitWords.{IsVariableOn, IsOn}}
-use Rattle.lb_expand.proofs.lists.Lists.{SomeOf, in_some}
-use Rattle.lb_expand.proofs.numbering.NumberedFits.{AreScalars, program_sorts, program_fits}
-use Rattle.lb_expand.proofs.numbering.NumberedFits.{variables_on}
+use Words.{Chain, Declaration, Definition, Element, Every, Every-at, Every-from, FlatClock}
+use Words.{FlatEquation, FlatProgram, HasReads, IfSome, In, Instance, IsGiven, IsVariable, Layout}
+use Words.{Leads, List, Needs, NeedsAt, None, Observer, Program, Root, Some, State, [], ap, arith}
+use Words.{before_instances, call_definitions, check_refusal, clock_definitions, clock_reads}
+use Words.{columns_at, declared_clock, declared_over, definitions_at, elements, emit_instances}
+use Words.{equation_definitions, equation_reads, expanded, flat_map, given_inputs, history_of}
+use Words.{in_either, in_first, in_second, inl, input_kinds, inr, instance_at, instances, layout}
+use Words.{length, map_in, more_reads, node_occurrences, numbers_below, observed}
+use Words.{observer_definitions, of_pieces, one_read, own_variables, program_elements, reads, refl}
+use Words.{slice_get, slice_get_within, statements, static_refusal, subst, sym, to_pieces}
+use Words.{variables, waits_for, ℕ, ◌++◌, ◌<◌, ◌∙◌, ◌∷◌, ◌≡◌, ◌⊎◌}
+use Rattle.lb_check.specs.Elements.{numbers_of}
+use Rattle.lb_expand.proofs.clock_tables.KnownClocks.{clocks_known, waits_read}
+use Rattle.lb_expand.proofs.copies.{CopiedCalls.IsDefinedBy, CopiedProgram.AreClocksKnown}
+use Rattle.lb_expand.proofs.copies.CopiedProgram.{copies_defined, made, same}
+use Rattle.lb_expand.proofs.{copies.GivenProgram.given_whole, fits.FitWords.{IsOn, IsVariableOn}}
+use Rattle.lb_expand.proofs.{lists.Lists.{SomeOf, in_some}, numbering.NumberedFits.AreScalars}
+use Rattle.lb_expand.proofs.numbering.NumberedFits.{program_fits, program_sorts, variables_on}
 use Rattle.lb_expand.proofs.numbering.NumberedPlaces.{elements_declared, is_laid_out}
-use Rattle.lb_expand.proofs.reads.LinkWords.{Pairs, AllMeet, Meets, either}
-use Rattle.lb_expand.proofs.reads.NeedsOfCopies.{needs_by_copies, clock_at, AreDeclaredOn, IsRunAt}
-use Rattle.lb_expand.proofs.{reads.NeedsOfCopies.AreRunAt, solutions.Placing.AreAsWide}
+use Rattle.lb_expand.proofs.reads.LinkWords.{AllMeet, Meets, Pairs, either}
+use Rattle.lb_expand.proofs.reads.NeedsOfCopies.{AreDeclaredOn, AreRunAt, IsRunAt, clock_at}
+use Rattle.lb_expand.proofs.{reads.NeedsOfCopies.needs_by_copies, solutions.Placing.AreAsWide}
 use Rattle.lb_expand.proofs.{solutions.Solving.start_closed, widths.SoundPrograms.observer_wide_in}
+use Rattle.lb_flat.{proofs.lists.Lists.{Every-map, Every-second}, specs.Fitting.ClockFits}
 
 -- What an element of an accepted program needs, its number reads: by its copy, or by its clock. So
 -- an element that reaches itself by needs reaches itself by reads.
@@ -296,8 +295,7 @@ module _ (P : Program) (accepted : static_refusal P ≡ None) (checked : check_r
         (declared_over (IsVariable c.node) c.node (own_variables c.node) d.name))
 
     -- the elements of variables are on the clocks of their declarations
-    declared :
-        (c : Instance) → In c (instances P) → AreDeclaredOn P (program_sorts P).clock_of c
+    declared : (c : Instance) → In c (instances P) → AreDeclaredOn P (program_sorts P).clock_of c
     declared c j =
         Every-map (IsVariableOn (program_sorts P) (layout P) P c)
         (λ d. Every (λ i. (program_sorts P).clock_of i ≡ clock_at P c d)

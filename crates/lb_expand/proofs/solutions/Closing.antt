@@ -27,10 +27,6 @@ higher n m is le h = Every-map (λ i. i < n) (λ i. i < m) (λ i lt. omega arith
 abbrev Reaches : ℕ → Operation → Type 0
 Reaches n o = Below n (reads o ++ keeps o)
 
-reaches_higher :
-    (n m : ℕ) (os : List Operation) → n ≤ m → Every (Reaches n) os → Every (Reaches m) os
-reaches_higher n m os le h = Every-map (Reaches n) (Reaches m) (λ o b. higher n m _ le b) os h
-
 module _ (n : ℕ) where
   reach_each :
       (f : ℕ → Operation) → ((i : ℕ) → i < n → Reaches n (f i)) → (is : List ℕ) →
@@ -64,7 +60,7 @@ numbered_fresh n k (o ∷ os) c h = (
     names_below = Every-append (λ i. i < n) (clock_reads k) (reads o ++ keeps o) c h.0;
   },
   numbered_fresh (suc n) k os (higher n (suc n) _ (omega arith) c)
-      (reaches_higher n (suc n) os (omega arith) h.1),
+      (Every-map (Reaches n) (Reaches (suc n)) (λ o b. higher n (suc n) _ (omega arith) b) os h.1),
 )
 
 Fresh-append :
@@ -213,8 +209,7 @@ module _ (V : ℕ) where
         let r = add_tight x.state (map (ApplyUnary Not) x.found) h.state reached in
         record { state = r.state; grows = omega (arith, r.grows, h.grows); found = r.found }
 
-    nor_tight :
-        (s : State) (is : List ℕ) → Closed s → Below s.next is → Tight s (emit_nor k s is)
+    nor_tight : (s : State) (is : List ℕ) → Closed s → Below s.next is → Tight s (emit_nor k s is)
     nor_tight s is closed h =
         let t : State = push k s (Constant (Boolean false)) in
         let t_closed = push_tight s _ closed tt in

@@ -1,25 +1,25 @@
 -- Streams that are filled in along equations that fit have their kinds and are present on their
 -- clocks.
 use Rattle.lb_expand.proofs.Words
-use Words.{heads_same, tails_same, Kind, Or, And, Every, zip2, tail_of, and_first, and_second}
-use Words.{Scalar, Integer, Boolean, Bad, Stream, two_scalars, one_scalar, is_of_kind, constantly}
-use Words.{along, along_two, choice, previous, first_then, sample, latest, newest, first_cell}
-use Words.{Inputs, column_of, fits, is_row, FlatClock, Operation, Input, Constant, Copy, ApplyUnary}
-use Words.{ApplyBinary, Choose, FirstThen, Previous, Latest, Sample, FlatEquation, column, instants}
-use Words.{operate, Holds, reads, keeps, ◌+◌, ◌&&◌, is_some, map, length, replicate, refl, ap, ap₂}
-use Words.{◌∙◌, arith, shows, AreLong, ◌≡◌, ℕ, suc, ◌<◌, Bool, true, false, ℤ, Some, None, List, []}
-use Words.{◌∷◌, sym, slice_get, subst}
-use Rattle.lb_syntax.specs.declared.tree.Kind.TheVariants.{Bool as Truth}
+use Words.{And, ApplyBinary, ApplyUnary, AreLong, Bad, Bool, Boolean, Choose, Constant, Copy, Every}
+use Words.{FirstThen, FlatClock, FlatEquation, Holds, Input, Inputs, Integer, Kind, Latest, List}
+use Words.{None, Operation, Or, Previous, Sample, Scalar, Some, Stream, [], along, along_two}
+use Words.{and_first, and_second, ap, ap₂, arith, choice, column, column_of, constantly, false}
+use Words.{first_cell, first_then, fits, heads_same, instants, is_of_kind, is_row, is_some, keeps}
+use Words.{latest, length, map, newest, one_scalar, operate, previous, reads, refl, replicate}
+use Words.{sample, shows, slice_get, subst, suc, sym, tail_of, tails_same, true, two_scalars, zip2}
+use Words.{ℕ, ℤ, ◌&&◌, ◌+◌, ◌<◌, ◌∙◌, ◌∷◌, ◌≡◌}
 use Rattle.lb_check.specs.{Scalars.Nil, Streams.sampled_at}
-use Rattle.lb_flat.specs.Fitting.{IsOf, OperandKinds, KindFits, OperandsFit, ClockFits}
-use Rattle.lb_flat.proofs.lists.Lists.{choice_step, latest_step, column_long, instants_long}
-use Rattle.lb_flat.proofs.lists.Lists.{Every-map}
-use Rattle.lb_flat.proofs.runs.Fitting.{unary_of, binary_of, CellOf, held_of, kept_of, newest_of}
-use Rattle.lb_flat.proofs.runs.Fitting.{one_of, two_of, chosen_cell_of, given_kind, all_given}
-use Rattle.lb_flat.proofs.runs.Fitting.{held_present, one_present, two_present, choice_present}
-use Rattle.{lb_flat.proofs.runs.Fitting.kept_present, lb_expand.proofs.lists.Counting.IsTruth}
-use Rattle.lb_expand.proofs.solutions.Filling.{Fresh, below_reads, below_keeps, below_next}
-use Rattle.lb_expand.proofs.solutions.{Placing.HasTruths, Solving.{second_of_or, second_of_and}}
+use Rattle.lb_expand.proofs.{lists.Counting.IsTruth, solutions.Filling.{Fresh, below_keeps}}
+use Rattle.lb_expand.proofs.solutions.{Filling.{below_next, below_reads}, Placing.HasTruths}
+use Rattle.lb_expand.proofs.solutions.Solving.{second_of_and, second_of_or}
+use Rattle.lb_flat.proofs.lists.Lists.{Every-map, choice_step, column_long, instants_long}
+use Rattle.lb_flat.proofs.{lists.Lists.latest_step, runs.Fitting.{CellOf, all_given, binary_of}}
+use Rattle.lb_flat.proofs.runs.Fitting.{choice_present, chosen_cell_of, given_kind, held_of}
+use Rattle.lb_flat.proofs.runs.Fitting.{held_present, kept_of, kept_present, newest_of, one_of}
+use Rattle.lb_flat.proofs.runs.Fitting.{one_present, two_of, two_present, unary_of}
+use Rattle.lb_flat.specs.Fitting.{ClockFits, IsOf, KindFits, OperandKinds, OperandsFit}
+use Rattle.lb_syntax.specs.declared.tree.Kind.TheVariants.{Bool as Truth}
 
 -- Streams that are filled in along equations whose kinds fit hold scalars of their kinds; so the
 -- operands that have to be truth values are truth values.
@@ -106,8 +106,7 @@ module _ (kind : Kind) where
       (two_of k l kind f x y e h.0 g.0, along_two_of k l f xs ys e h.1 g.1)
 
   -- a stream that fits a kind holds scalars of it
-  pub fits_of :
-      (bs : List Bool) (xs : Stream) → fits kind bs xs ≡ true → StreamOf kind xs
+  pub fits_of : (bs : List Bool) (xs : Stream) → fits kind bs xs ≡ true → StreamOf kind xs
   fits_of bs [] e = tt
   fits_of (false ∷ bs) (None ∷ xs) e = (tt, fits_of bs xs e)
   fits_of (true ∷ bs) (Some v ∷ xs) e =
@@ -225,11 +224,6 @@ own_fits kind [] h = refl
 own_fits kind (None ∷ xs) h = own_fits kind xs h.1
 own_fits kind (Some v ∷ xs) h = ap₂ (λ a b. a && b) h.0 (own_fits kind xs h.1)
 
--- a stream that is present at the instants of `bs` and has the kind fits
-pub fits_made : (kind : Kind) (bs : List Bool) (xs : Stream) → presence_of xs ≡ bs →
-    StreamOf kind xs → fits kind bs xs ≡ true
-fits_made kind bs xs p h = subst (λ cs. fits kind cs xs ≡ true) p (own_fits kind xs h)
-
 -- ## Operators
 
 constantly_there : (v : Scalar) (bs : List Bool) → presence_of (constantly v bs) ≡ bs
@@ -276,8 +270,7 @@ first_then_there (None ∷ xs) (y ∷ ys) (b ∷ bs) p q =
 first_then_there (Some v ∷ xs) (y ∷ ys) (b ∷ bs) p q =
     cc (heads_same _ _ _ _ p, tails_same _ _ _ _ q)
 
-previous_there : (v : Scalar) (bs : List Bool) (xs : Stream) →
-    presence_of (previous v bs xs) ≡ bs
+previous_there : (v : Scalar) (bs : List Bool) (xs : Stream) → presence_of (previous v bs xs) ≡ bs
 previous_there v [] xs = refl
 previous_there v (b ∷ bs) xs =
     cc (held_present v b, previous_there (newest v (first_cell xs)) bs (tail_of xs))
@@ -318,8 +311,7 @@ module _ (inputs : List Kind) (K : ℕ → FlatClock) (N : ℕ → Kind) (X : In
   given_there j lt [] h = refl
   given_there j lt (row ∷ Z) h = cc (all_given inputs row h.0 j lt, given_there j lt Z h.1)
 
-  on : (k : FlatClock) (i : ℕ) → K i ≡ k → IsThere i →
-      presence_of (column X F i) ≡ instants X F k
+  on : (k : FlatClock) (i : ℕ) → K i ≡ k → IsThere i → presence_of (column X F i) ≡ instants X F k
   on k i e h = h ∙ ap (instants X F) e
 
   operate_there :
@@ -357,16 +349,13 @@ module _ (inputs : List Kind) (K : ℕ → FlatClock) (N : ℕ → Kind) (X : In
       Every ElementFits (reads q.operation) → Every ElementFits (keeps q.operation) →
       ElementFits q.element
   equation_fits q holds clock kind r m =
-      fits_made (N q.element) (instants X F (K q.element)) (column X F q.element)
-      (ap presence_of holds
-      ∙ operate_there q.clock q.operation clock.operands
-      (Every-map ElementFits IsThere element_there (reads q.operation) r)
-      ∙ sym (ap (instants X F) clock.own))
-      (subst (StreamOf (N q.element)) (sym holds)
-      (operate_of inputs N X rows F q.clock (N q.element) q.operation kind
-      (Every-map ElementFits (λ i. StreamOf (N i) (column X F i)) element_of (reads q.operation) r)
-      (Every-map ElementFits (λ i. StreamOf (N i) (column X F i)) element_of (keeps q.operation)
-      m)))
+      subst (λ cs. fits (N q.element) cs (column X F q.element) ≡ true) (ap presence_of holds
+      ∙ operate_there q.clock q.operation clock.operands (Every-map ElementFits IsThere
+      element_there (reads q.operation) r) ∙ sym (ap (instants X F) clock.own))
+      (own_fits (N q.element) (column X F q.element) (subst (StreamOf (N q.element)) (sym holds)
+      (operate_of inputs N X rows F q.clock (N q.element) q.operation kind (Every-map ElementFits
+      (λ i. StreamOf (N i) (column X F i)) element_of (reads q.operation) r) (Every-map ElementFits
+      (λ i. StreamOf (N i) (column X F i)) element_of (keeps q.operation) m))))
 
   -- where the elements below the first equation fit, all elements fit
   pub fresh_fits :

@@ -118,8 +118,7 @@ module _ (X : Inputs) (F G : List Stream) (n : ℕ)
 -- ## Columns of longer lists
 
 module _ (X : Inputs) where
-  column_before :
-      (F G : List Stream) (i : ℕ) → i < length F → column X (F ++ G) i ≡ column X F i
+  column_before : (F G : List Stream) (i : ℕ) → i < length F → column X (F ++ G) i ≡ column X F i
   column_before [] G i lt = absurd (omega arith)
   column_before (xs ∷ F) G zero lt = refl
   column_before (xs ∷ F) G (suc i) lt = column_before F G i (omega arith)

@@ -1,26 +1,25 @@
 -- Every history that solves an accepted program comes from streams that solve its flat program.
 use Rattle.lb_expand.proofs.Words
-use Words.{◌≡◌, ℕ, zero, suc, ◌+◌, ◌<◌, Bool, true, List, [], ◌∷◌, ◌++◌, length, flat_map, refl}
-use Words.{sym, ap, ap₂, ◌∙◌, subst, arith, range_with_len, length-map, length-range_with_len, Kind}
-use Words.{Every, Declaration, Program, Instance, instances, variables, input_kinds, Stream}
-use Words.{History, variable_columns, Inputs, fits, variable_presence, Fits, SolvesAt, Solves}
-use Words.{pieces_count, FlatClock, column, AreLong, Layout, State, before_instances}
-use Words.{emit_instances, None, Name, Path, Root, Observer, instance_at, static_refusal}
-use Words.{check_refusal, declared_clock, AgreeAt, AreSame, solves_same, given_inputs, observed}
-use Words.{expanded, FlatEquation, instants, FlatSolves, IsFlatSolution, history_of, flat_clock}
+use Words.{AgreeAt, AreLong, AreSame, Bool, Declaration, Every, Fits, FlatClock, FlatEquation}
+use Words.{FlatSolves, History, Inputs, Instance, IsFlatSolution, Kind, Layout, List, Name, None}
+use Words.{Observer, Path, Program, Root, Solves, SolvesAt, State, Stream, [], ap, ap₂, arith}
+use Words.{before_instances, check_refusal, column, declared_clock, emit_instances, expanded, fits}
+use Words.{flat_clock, flat_map, given_inputs, history_of, input_kinds, instance_at, instances}
+use Words.{instants, length, length-map, length-range_with_len, observed, pieces_count}
+use Words.{range_with_len, refl, solves_same, static_refusal, subst, suc, sym, true}
+use Words.{variable_columns, variable_presence, variables, zero, ℕ, ◌++◌, ◌+◌, ◌<◌, ◌∙◌, ◌∷◌, ◌≡◌}
 use Rattle.lb_check.proofs.{lists.ListPairs.cons_same, programs.SolutionStreams.fits_length}
-use Rattle.lb_flat.specs.Fitting.{KindFits, IsFitting, ClockFits}
-use Rattle.lb_flat.proofs.lists.Lists.{Every-map, Every-of_pieces, Every-range, Every-both}
-use Rattle.lb_flat.proofs.{lists.Lists.Every-second, solutions.StandingRuns.cells_fit}
 use Rattle.lb_expand.proofs.{copies.CopiedElements.expanded_within, lists.Lists.map-pieces}
-use Rattle.lb_expand.proofs.solutions.Closing.{Closed, Below}
-use Rattle.lb_expand.proofs.solutions.FilledFits.{ElementOf, fits_of, fresh_truths, fresh_fits}
-use Rattle.lb_expand.proofs.solutions.Filling.{filled_keeps, filled_solves}
-use Rattle.lb_expand.proofs.solutions.Placing.{columns, HasTruths, Agrees, presence_flat}
-use Rattle.lb_expand.proofs.solutions.Solving.{start_closed, all_streams_of, IsElement}
-use Rattle.lb_expand.proofs.solutions.Solving.{IsVariablePlaced, IsPlacing, IsSolvedAt}
-use Rattle.lb_expand.proofs.solutions.Solving.{IsProgramSound, IsTied, to_flat}
-use Rattle.lb_expand.proofs.solutions.Watching.{all_places}
+use Rattle.lb_expand.proofs.solutions.{Closing.{Below, Closed}, FilledFits.{ElementOf, fits_of}}
+use Rattle.lb_expand.proofs.solutions.{FilledFits.{fresh_fits, fresh_truths}, Filling.filled_keeps}
+use Rattle.lb_expand.proofs.solutions.{Filling.filled_solves, Placing.{Agrees, HasTruths, columns}}
+use Rattle.lb_expand.proofs.solutions.{Placing.presence_flat, Solving.{IsElement, IsPlacing}}
+use Rattle.lb_expand.proofs.solutions.Solving.{IsProgramSound, IsSolvedAt, IsTied, IsVariablePlaced}
+use Rattle.lb_expand.proofs.solutions.Solving.{all_streams_of, start_closed, to_flat}
+use Rattle.{lb_expand.proofs.solutions.Watching.all_places, lb_flat.proofs.lists.Lists.Every-both}
+use Rattle.lb_flat.proofs.lists.Lists.{Every-map, Every-of_pieces, Every-range, Every-second}
+use Rattle.lb_flat.{proofs.solutions.StandingRuns.cells_fit, specs.Fitting.{ClockFits, IsFitting}}
+use Rattle.lb_flat.specs.Fitting.{KindFits}
 
 -- The streams of a program's variables in the order of instantiation, from a history that solves
 -- the program, and the streams that the further equations fill in from them.
@@ -117,8 +116,7 @@ module _ (P : Program) (Y : Layout) (count : ℕ) (K : ℕ → FlatClock) (N : �
   )
 
   abbrev of_instance : List Stream → Instance → List Stream
-  of_instance G here =
-      flat_map (λ d. columns X G (Y.places here.path d.name)) (variables here.node)
+  of_instance G here = flat_map (λ d. columns X G (Y.places here.path d.name)) (variables here.node)
 
   -- what is known of the variables and of the solution of each instance
   known_of :
@@ -180,8 +178,7 @@ module _ (P : Program) (Y : Layout) (count : ℕ) (K : ℕ → FlatClock) (N : �
       (kind : Kind) (bs : List Bool) (xss : List Stream) → length bs ≡ length X →
       Every (λ xs. fits kind bs xs ≡ true) xss → AreLong X xss
   cells_long kind bs [] e h = tt
-  cells_long kind bs (xs ∷ xss) e h =
-      (fits_length kind bs xs h.0 ∙ e, cells_long kind bs xss e h.1)
+  cells_long kind bs (xs ∷ xss) e h = (fits_length kind bs xs h.0 ∙ e, cells_long kind bs xss e h.1)
 
   -- where the clocks of variables have the instants of the trace, so have their streams
   pub gathered_long :
@@ -314,7 +311,7 @@ module _ (P : Program) (elaborated : static_refusal P ≡ None) (checked : check
         (instances P))
         (signs : (p : Path) (x : Name) →
         columns X streams_for (Y.places p x) ≡ columns X streams_for (Y.signs p x)) where
-      same : AreSame P history_for H
+      pub same : AreSame P history_for H
       same =
           Every-map _ (AgreeAt history_for H)
           (λ here z. record { ticks = z.0; columns = z.1 }) (instances P)
@@ -435,6 +432,3 @@ module _ (P : Program) (elaborated : static_refusal P ≡ None) (checked : check
             cells_fit (input_kinds P) K N size X streams_for (expanded Y P count).equations
             (expanded_within count Y P placing.laid) fit.clocks each_fit;
       }
-
-      pub solved_same : AreSame P history_for H
-      solved_same = same

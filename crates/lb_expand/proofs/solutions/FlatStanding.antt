@@ -1,27 +1,26 @@
 -- Streams that solve the flat program stand for a history, and the flat program for its program.
 use Rattle.lb_expand.proofs.Words
-use Words.{◌≡◌, ℕ, ◌<◌, ◌≤◌, true, inl, inr, None, List, [], ◌∷◌, ◌++◌, map, length, replicate}
-use Words.{refl, sym, ap, ap₂, ◌∙◌, subst, arith, get_or-eq_default, length-map, cases_lt, Or, And}
-use Words.{Kind, Every, In, Name, Declaration, variables, input_kinds, Program, Instance, Path}
-use Words.{Root, Observer, instance_at, instances, Stream, Inputs, fits, Fits}
-use Words.{SolvesAt, Solves, State, given_inputs, observed, before_instances, emit_instances}
-use Words.{expanded, FlatClock, Operation, ApplyBinary, FlatEquation, column, instants, Holds}
-use Words.{IsCellFit, IsFlatSolution, history_of, IsWatched, FlatProgram, Layout, flat_clock, width}
-use Words.{static_refusal, check_refusal, node_occurrences, variable_presence, AreSame, History}
-use Words.{HasAllMemories}
+use Words.{And, ApplyBinary, AreSame, Declaration, Every, Fits, FlatClock, FlatEquation}
+use Words.{FlatProgram, HasAllMemories, History, Holds, In, Inputs, Instance, IsCellFit}
+use Words.{IsFlatSolution, IsWatched, Kind, Layout, List, Name, None, Observer, Operation, Or, Path}
+use Words.{Program, Root, Solves, SolvesAt, State, Stream, [], ap, ap₂, arith, before_instances}
+use Words.{cases_lt, check_refusal, column, emit_instances, expanded, fits, flat_clock}
+use Words.{get_or-eq_default, given_inputs, history_of, inl, input_kinds, inr, instance_at}
+use Words.{instances, instants, length, length-map, map, node_occurrences, observed, refl}
+use Words.{replicate, static_refusal, subst, sym, true, variable_presence, variables, width, ℕ}
+use Words.{◌++◌, ◌<◌, ◌∙◌, ◌∷◌, ◌≡◌, ◌≤◌}
+use Rattle.lb_expand.proofs.{lists.Counting.IsTruth, solutions.FlatHistories.{all_gathered, same}}
+use Rattle.lb_expand.proofs.solutions.{FlatHistories.{solved_flat, streams_for}, KeptMemories.Stay}
+use Rattle.lb_expand.proofs.solutions.{KeptMemories.{memories_are, second_stays}, Placing.Agrees}
+use Rattle.lb_expand.proofs.solutions.Placing.{AllMet, HasTruths, IsMet, columns, presence_flat}
+use Rattle.lb_expand.proofs.solutions.Solving.{IsElement, IsPlacing, IsProgramSound, IsSolvedAt}
+use Rattle.lb_expand.proofs.solutions.Solving.{IsVariablePlaced, absent_truths, fits_truths}
+use Rattle.lb_expand.proofs.solutions.Solving.{from_flat, second_of_and, second_of_or}
+use Rattle.lb_expand.proofs.solutions.Watching.{IsInOrder, is_watched}
+use Rattle.lb_expand.proofs.widths.{SoundInstances.RunsAt, SoundPrograms.program_sound}
+use Rattle.lb_flat.proofs.lists.Lists.{Every-both, Every-map, Every-second}
+use Rattle.lb_flat.specs.Fitting.{ClockFits, IsFitting, KindFits, OperandKinds}
 use Rattle.lb_syntax.specs.declared.tree.Kind.TheVariants.{Bool as Truth}
-use Rattle.lb_flat.specs.Fitting.{OperandKinds, KindFits, IsFitting, ClockFits}
-use Rattle.lb_flat.proofs.lists.Lists.{Every-map, Every-both, Every-second}
-use Rattle.lb_expand.proofs.{lists.Counting.IsTruth, solutions.FlatHistories.streams_for}
-use Rattle.lb_expand.proofs.solutions.FlatHistories.{solved_flat, solved_same, all_gathered}
-use Rattle.lb_expand.proofs.solutions.KeptMemories.{Stay, second_stays, memories_are}
-use Rattle.lb_expand.proofs.solutions.Placing.{columns, IsMet, AllMet, HasTruths, Agrees}
-use Rattle.lb_expand.proofs.solutions.{Placing.presence_flat, Solving.{IsSolvedAt, fits_truths}}
-use Rattle.lb_expand.proofs.solutions.Solving.{absent_truths, second_of_or, second_of_and}
-use Rattle.lb_expand.proofs.solutions.Solving.{IsElement, IsVariablePlaced, IsPlacing}
-use Rattle.lb_expand.proofs.solutions.{Solving.{IsProgramSound, from_flat}, Watching.IsInOrder}
-use Rattle.lb_expand.proofs.{solutions.Watching.is_watched, widths.SoundInstances.RunsAt}
-use Rattle.lb_expand.proofs.widths.SoundPrograms.{program_sound}
 
 -- Streams that solve the flat program of a program, with presence and kinds, stand for a history
 -- that solves the program.
@@ -60,8 +59,7 @@ module _ (wanted : List Kind) (K : ℕ → FlatClock) (N : ℕ → Kind) (f : Fl
             (absent_truths (length X))
       ]
 
-  has_truths :
-      (kind : Kind) (o : Operation) → OperandKinds wanted N kind o → HasTruths X F o
+  has_truths : (kind : Kind) (o : Operation) → OperandKinds wanted N kind o → HasTruths X F o
   has_truths kind (ApplyBinary Or a b) g = truths_at b (second_of_or (N a) (N b) kind g)
   has_truths kind (ApplyBinary And a b) g = truths_at b (second_of_and (N a) (N b) kind g)
   has_truths kind o g = tt
@@ -153,12 +151,6 @@ module _ (P : Program) (Y : Layout) (count : ℕ) (K : ℕ → FlatClock) (N : �
               (IsSolvedAt P H) (instances P) placing.variables tied.instances);
         }
 
-    -- all elements that decide the verdict of this history are watched
-    pub solution_watched : IsProgramSound Y P (history_of Y X F) → IsInOrder Y P count → (t : ℕ) →
-        IsWatched P (expanded Y P count) X F (history_of Y X F) t
-    solution_watched ok order t =
-        is_watched Y P count X F s.equations.as_long agrees ok.instances further_met order t
-
 -- The flat program of an accepted program stands for it, where its clocks and kinds fit, the layout
 -- gives variables their elements, and each element has an equation.
 
@@ -247,11 +239,12 @@ module _ (P : Program) (elaborated : static_refusal P ≡ None) (checked : check
           sound X H h,
       solved_flat P elaborated checked Y count K N fit placing order.variables
           sound X H h (long X H h) (ticks X H h) (served X H h),
-      solved_same P elaborated checked Y count K N fit placing order.variables
-          sound X H h (long X H h) (ticks X H h) (served X H h),
+      same P elaborated checked Y count K N fit placing order.variables sound X H h (long X H h)
+          (ticks X H h) (served X H h),
     );
     watched = λ X F s t lt.
-        solution_watched P Y count K N each fit placing X F s (signs X F s) (sound X F)
+        is_watched Y P count X F s.equations.as_long (agrees P Y count K N each fit placing X F s
+        (signs X F s)) (sound X F).instances (further_met P Y count K N each fit placing X F s)
         order t;
     memories =
         memories_are P elaborated checked Y placed runs count N (expanded Y P count)

@@ -1,34 +1,33 @@
 -- Each part of a text is emitted, and its memories stand in the flat program.
 use Rattle.lb_expand.proofs.Words
-use Words.{◌≡◌, inl, inr, ℕ, ◌+◌, List, [], ◌∷◌, ◌++◌, sym, subst, BinaryOperator}
-use Words.{ArrayIterator, Every, In, Node_named, Symbol, Expr, Literal, Truth, Variable, Group}
-use Words.{Unary, Binary, If, Arrow, Fby, Pre, Current, When, Replicate, Index, Slice, Join, Array}
-use Words.{AtMostOne, Nor, Call, Iterate, Exprs, Nil, Cons, Statement, Equation, Assertion, Program}
-use Words.{Instance, node_named, Occurrence, call_count, call_clocks, occurrences, occurrences_in}
-use Words.{occurrences_each, right_sides, node_occurrences, FlatClock}
-use Words.{FlatEquation, Operation, Layout, State, Emitted, numbered, add, emit_nor}
-use Words.{emit_at_most_one, keep, assert, joins, emit_symbol, emit, emit_all}
-use Words.{emit_each, emit_body, emit_instances, suc, false, None, Some, map, length, refl, ap, ◌∙◌}
-use Words.{length-map, Kind, zip2, Name, DataType, variables, width, input_kinds, Path, instances}
-use Words.{static_refusal, check_refusal, at, Stream, Inputs, History, data_types}
-use Words.{common_type, HasTypes, occurrences_typed, length-both, Every-from, numbers}
-use Words.{before_instances, FirstThen, Previous, Latest, column, IsFlatSolution, history_of}
-use Words.{FlatProgram, flat_clock, KeepsOperand, KeepsFlag, HasMemories, HasAllMemories}
-use Rattle.lb_check.specs.{Clocks.{Clock}, Scalars.Nil as Nil_value}
-use Rattle.lb_flat.{specs.MemoryPlaces.{equations_at, HoldStreams}, proofs.lists.Lists.Every-append}
-use Rattle.lb_flat.proofs.lists.Lists.{Every-map, Every-both, Every-in, Every-first, Every-second}
-use Rattle.lb_expand.proofs.widths.Widths.{PartsHave, nested_node}
-use Rattle.lb_expand.proofs.emission.EmissionSteps.{IsStep, Any, any_joined, nor_step}
-use Rattle.lb_expand.proofs.emission.EmissionSteps.{at_most_one_step, symbol_step, emit_step}
-use Rattle.lb_expand.proofs.emission.EmissionSteps.{all_step, each_step, body_step, instances_step}
-use Rattle.lb_expand.proofs.reads.LinkSymbols.{keep_equations, keep_found}
-use Rattle.lb_expand.proofs.solutions.{Emission.{joins_equations, sound}, Placing.{columns, IsMet}}
-use Rattle.lb_expand.proofs.solutions.{Placing.{AllMet, Agrees, IsPlaced}, Solving.occurrences_of}
-use Rattle.lb_expand.proofs.solutions.Solving.{assert_equations, IsSound}
-use Rattle.lb_expand.proofs.widths.{FoundWidths.{as_many, add_count}, SoundInstances.RunsAt}
-use Rattle.lb_expand.proofs.widths.SoundPrograms.{history_wide, program_sound, all_wide}
-use Rattle.lb_expand.proofs.widths.{TypeFacts.{elements_in, two, alike}, Widths.AreVariablesWide}
-use Rattle.lb_expand.proofs.widths.Widths.{IsOccurrenceWide, wide}
+use Words.{Array, Arrow, Assertion, AtMostOne, Binary, Call, Cons, Current, DataType, Emitted}
+use Words.{Equation, Every, Every-from, Expr, Exprs, Fby, FirstThen, FlatClock, FlatEquation}
+use Words.{FlatProgram, Group, HasAllMemories, HasMemories, HasTypes, History, If, In, Index}
+use Words.{Inputs, Instance, IsFlatSolution, Iterate, Join, KeepsFlag, KeepsOperand, Kind, Latest}
+use Words.{Layout, List, Literal, Name, Nil, Node_named, None, Nor, Occurrence, Operation, Path}
+use Words.{Pre, Previous, Program, Replicate, Slice, Some, State, Statement, Stream, Symbol, Truth}
+use Words.{Unary, Variable, When, [], add, ap, assert, at, before_instances, call_clocks}
+use Words.{call_count, check_refusal, column, common_type, data_types, emit, emit_all, emit_body}
+use Words.{emit_each, emit_instances, false, flat_clock, history_of, inl, input_kinds, inr}
+use Words.{instances, joins, keep, length, length-both, length-map, map, node_named}
+use Words.{node_occurrences, numbered, numbers, occurrences, occurrences_each, occurrences_in}
+use Words.{occurrences_typed, refl, right_sides, static_refusal, subst, suc, sym, variables, width}
+use Words.{zip2, ℕ, ◌++◌, ◌+◌, ◌∙◌, ◌∷◌, ◌≡◌}
+use Rattle.lb_check.specs.{Clocks.Clock, Scalars.Nil as Nil_value}
+use Rattle.lb_expand.proofs.emission.EmissionSteps.{Any, IsStep, all_step, any_joined}
+use Rattle.lb_expand.proofs.emission.EmissionSteps.{at_most_one_step, body_step, each_step}
+use Rattle.lb_expand.proofs.emission.EmissionSteps.{emit_step, instances_step, nor_step}
+use Rattle.lb_expand.proofs.{emission.EmissionSteps.symbol_step, reads.LinkSymbols.keep_equations}
+use Rattle.lb_expand.proofs.{reads.LinkSymbols.keep_found, solutions.Emission.joins_equations}
+use Rattle.lb_expand.proofs.solutions.{Emission.sound, Placing.{Agrees, AllMet, IsMet, IsPlaced}}
+use Rattle.lb_expand.proofs.solutions.{Placing.columns, Solving.{IsSound, assert_equations}}
+use Rattle.lb_expand.proofs.{solutions.Solving.occurrences_of, widths.FoundWidths.add_count}
+use Rattle.lb_expand.proofs.widths.{FoundWidths.as_many, SoundInstances.RunsAt}
+use Rattle.lb_expand.proofs.widths.SoundPrograms.{all_wide, history_wide, program_sound}
+use Rattle.lb_expand.proofs.widths.{TypeFacts.{alike, elements_in, two}, Widths.AreVariablesWide}
+use Rattle.lb_expand.proofs.widths.Widths.{IsOccurrenceWide, PartsHave, nested_all, wide}
+use Rattle.lb_flat.proofs.lists.Lists.{Every-append, Every-both, Every-first, Every-in, Every-map}
+use Rattle.lb_flat.{proofs.lists.Lists.Every-second, specs.MemoryPlaces.{HoldStreams, equations_at}}
 
 -- Each part of a text is emitted from some state, and the equations that are emitted for it stay.
 
@@ -79,19 +78,6 @@ staying = record {
   joining = λ s qs is j. joins_stays s qs is;
 }
 
-nor_stays : (k : FlatClock) (s : State) (is : List ℕ) →
-    Stay s.equations (emit_nor k s is).state.equations
-nor_stays = nor_step Stays staying.adding
-
-at_most_one_stays : (k : FlatClock) (s : State) (is : List ℕ) →
-    Stay s.equations (emit_at_most_one k s is).state.equations
-at_most_one_stays = at_most_one_step Stays staying.adding
-
-symbol_stays :
-    (k : FlatClock) (op : BinaryOperator) (s : State) (it : ArrayIterator)
-    (found : List (List ℕ)) → Stay s.equations (emit_symbol k op s it found).state.equations
-symbol_stays = symbol_step Stays staying.adding
-
 module _ (Y : Layout) (P : Program) (here : Instance) where
   -- the equations before an expression stay, and those before several expressions
   pub emit_stays : (k : Clock) (n : ℕ) (s : State) (e : Expr) →
@@ -101,10 +87,6 @@ module _ (Y : Layout) (P : Program) (here : Instance) where
   all_stay : (k : Clock) (n : ℕ) (s : State) (es : Exprs) →
       Stay s.equations (emit_all Y P here k n s es).state.equations
   all_stay = all_step Any Stays staying Y (any_joined Y) P here
-
-  each_stays : (ks : List Clock) (n : ℕ) (s : State) (es : Exprs) →
-      Stay s.equations (emit_each Y P here ks n s es).state.equations
-  each_stays = each_step Any Stays staying Y (any_joined Y) P here
 
   -- ## Parts
 
@@ -195,10 +177,13 @@ module _ (Y : Layout) (P : Program) (here : Instance) where
       parts_emitted k n s (Join a b) g =
           (own s g, both_emitted k n s a b (parts_emitted k n s a) (parts_emitted k _ _ b g) g)
       parts_emitted k n s (Array es) g = (own s g, all_emitted k n s es g)
-      parts_emitted k n s (AtMostOne es) g =
-          (own s g, all_emitted k n s es (λ q i. g q (at_most_one_stays _ _ _ q i)))
+      parts_emitted k n s (AtMostOne es) g = (
+        own s g,
+        all_emitted k n s es (λ q i. g q (at_most_one_step Stays staying.adding _ _ _ q
+            i)),
+      )
       parts_emitted k n s (Nor es) g =
-          (own s g, all_emitted k n s es (λ q i. g q (nor_stays _ _ _ q i)))
+          (own s g, all_emitted k n s es (λ q i. g q (nor_step Stays staying.adding _ _ _ q i)))
       parts_emitted k n s (Call f statics es) g = (
         own s g,
         each_emitted (call_clocks k (node_named P f) es) (n + 1) s es
@@ -206,8 +191,11 @@ module _ (Y : Layout) (P : Program) (here : Instance) where
       )
       parts_emitted k n s (Iterate it (Node_named f statics) m es) g =
           (own s g, all_emitted k (n + 1) s es (λ q i. g q (joins_stays _ _ _ q i)))
-      parts_emitted k n s (Iterate it (Symbol op) m es) g =
-          (own s g, all_emitted k n s es (λ q i. g q (symbol_stays _ op _ it _ q i)))
+      parts_emitted k n s (Iterate it (Symbol op) m es) g = (
+        own s g,
+        all_emitted k n s es (λ q i. g q (symbol_step Stays staying.adding _ op _ it _ q
+            i)),
+      )
 
       all_emitted :
           (k : Clock) (n : ℕ) (s : State) (es : Exprs) →
@@ -231,14 +219,11 @@ module _ (Y : Layout) (P : Program) (here : Instance) where
           let m = n + call_count e in
           let x = emit Y P here k n s e in
           Every-append IsEmitted _ _
-          (parts_emitted k n s e (λ q i. g q (each_stays ks m x.state es q i)))
+          (parts_emitted k n s e (λ q i. g q (each_step Any Stays staying Y (any_joined Y) P here ks
+          m x.state es q i)))
           (each_emitted ks m x.state es g)
 
   -- ## Statements
-
-  body_stays : (n : ℕ) (s : State) (body : List Statement) →
-      Stay s.equations (emit_body Y P here n s body).equations
-  body_stays = body_step Any Stays staying Y (any_joined Y) P assert_stays here
 
   body_emitted :
       (final : List FlatEquation) (n : ℕ) (s : State) (body : List Statement) →
@@ -249,23 +234,20 @@ module _ (Y : Layout) (P : Program) (here : Instance) where
   body_emitted final n s (Equation lefts e ∷ rest) g =
       let m = n + call_count e in
       Every-append (IsEmitted final) _ _
-      (parts_emitted final _ n s e (λ q i. g q (body_stays m _ rest q (joins_stays _ _ [] q i))))
+      (parts_emitted final _ n s e (λ q i. g q (body_step Any Stays staying Y (any_joined Y) P
+      assert_stays here m _ rest q (joins_stays _ _ [] q i))))
       (body_emitted final m _ rest g)
   body_emitted final n s (Assertion e ∷ rest) g =
       let m = n + call_count e in
       Every-append (IsEmitted final) _ _
       (parts_emitted final _ n s e
-      (λ q i. g q (body_stays m (assert _) rest q (assert_stays _ q i))))
+      (λ q i. g q (body_step Any Stays staying Y (any_joined Y) P assert_stays here m (assert _)
+      rest q (assert_stays _ q i))))
       (body_emitted final m (assert _) rest g)
 
 -- ## All instances
 
 module _ (Y : Layout) (P : Program) where
-  -- the equations before some instances stay
-  instances_stay : (s : State) (is : List Instance) →
-      Stay s.equations (emit_instances Y P s is).equations
-  instances_stay = instances_step Any Stays staying Y (any_joined Y) P assert_stays
-
   -- each expression in the text of each instance is emitted from some state
   pub all_parts_emitted :
       (final : List FlatEquation) (s : State) (is : List Instance) →
@@ -275,7 +257,8 @@ module _ (Y : Layout) (P : Program) where
   all_parts_emitted final s [] g = tt
   all_parts_emitted final s (here ∷ is) g =
       let t = emit_body Y P here 0 s here.node.body in (
-        body_emitted Y P here final 0 s here.node.body (λ q i. g q (instances_stay t is q i)),
+        body_emitted Y P here final 0 s here.node.body (λ q i. g q (instances_step Any Stays staying
+            Y (any_joined Y) P assert_stays t is q i)),
         all_parts_emitted final t is g,
       )
 
@@ -290,26 +273,16 @@ numbered_at k i [] = refl
 numbered_at k i (o ∷ os) =
     ap (λ qs. record { element = i; clock = k; operation = o } ∷ qs) (numbered_at k (suc i) os)
 
-add_found : (k : FlatClock) (s : State) (os : List Operation) →
-    (add k s os).found ≡ numbers s.next os
-unfolding add
-add_found k s os = refl
-
-add_new : (k : FlatClock) (s : State) (os : List Operation) →
-    Stay (numbered s.next k os) (add k s os).state.equations
-unfolding add
-add_new k s os = second_stays s.equations (numbered s.next k os)
-
 -- where the state behind `add` stays, the equations that it added are among the final ones
 added_there :
     (final : List FlatEquation) (k : FlatClock) (s : State) (os : List Operation) →
     Stay (add k s os).state.equations final →
     Every (λ q. In q final) (equations_at k (add k s os).found os)
+unfolding add
 added_there final k s os stay =
-    subst (λ is. Every (λ q. In q final) (equations_at k is os)) (sym (add_found k s os))
-    (subst (Every (λ q. In q final)) (numbered_at k s.next os)
+    subst (Every (λ q. In q final)) (numbered_at k s.next os)
     (Every-from (λ q. In q final) (numbered s.next k os)
-    (λ q i. stay q (add_new k s os q i))))
+    (λ q i. stay q (second_stays s.equations (numbered s.next k os) q i)))
 
 -- ## One instance
 
@@ -383,12 +356,6 @@ module _ (P : Program) (Y : Layout) (kinds : ℕ → Kind) (f : FlatProgram)
         Every (λ q. In q f.equations) qs
     all_there qs h = Every-map (λ q. In q final) (λ q. In q f.equations) (λ q i. there q i) qs h
 
-    kept_held :
-        (a : Occurrence) (x : Emitted) → HoldStreams P Y kinds f here a x.found →
-        HoldStreams P Y kinds f here a (keep x).found
-    kept_held a x h =
-        subst (HoldStreams P Y kinds f here a) (sym (keep_found x)) h
-
     -- an operand is kept by the operations that keep it
     operand_kept :
         (k : Clock) (a : Occurrence) (o : ℕ → Operation) (x : Emitted) →
@@ -403,7 +370,7 @@ module _ (P : Program) (Y : Layout) (kinds : ℕ → Kind) (f : FlatProgram)
           as_many = add_count own (keep x).state os ∙ length-map (keep x).found o;
           equations = all_there (equations_at own (add own (keep x).state os).found os)
               (added_there final own (keep x).state os stay);
-          streams = kept_held a x h;
+          streams = subst (HoldStreams P Y kinds f here a) (sym (keep_found x)) h;
         }
 
     -- the flags of `->` are kept
@@ -485,7 +452,8 @@ module _ (P : Program) (Y : Layout) (kinds : ℕ → Kind) (f : FlatProgram)
         z.1.1) all
         (Every-both (IsEmitted Y P here final) _ all emitted
         (Every-both (HasTypes P here) (PartsHave P here.node (λ p. In p all)) all types
-        (nested_node P here.node (λ p. In p all) (Every-from (λ p. In p all) all (λ p i. i)))))
+        (nested_all P here.node (λ p. In p all) (right_sides P here.node 0 here.node.body)
+        (Every-from (λ p. In p all) all (λ p i. i)))))
 
 -- ## A whole program
 

@@ -1,27 +1,28 @@
 -- Streams that agree with a history, the small words of expansion, and joined calls.
 use Rattle.lb_expand.proofs.Words
-use Words.{◌≡◌, ℕ, ◌+◌, ◌<◌, Option, Some, None, Bool, List, [], ◌∷◌, map, length, refl, sym, ap}
-use Words.{ap₂, ◌∙◌, ArrayIterator, Name, Node_named, Expr, Call, Iterate, Exprs, Declaration, Node}
-use Words.{Program, Instance, Path, Child, node_named, Stream, Scalar, Base, On, base_clock}
-use Words.{argument_clocks, Occurrence, History, presence, signed, constantly, all_streams}
-use Words.{argument_streams, number, Inputs, iterator_inputs, FlatClock, column, instants, Layout}
-use Words.{where_signed, flat_clock, suc, false, fold, Not, BinaryOperator, Or, And, Map, Red}
-use Words.{Every, zip2, Boolean, two_scalars, one_scalar, none_true, at_most_one, held, along}
-use Words.{along_two, choice, choices, across, symbols, Operation, Constant, ApplyUnary}
-use Words.{ApplyBinary, Choose, FlatEquation, operate, Holds, AreLong, State, Emitted, numbered}
-use Words.{numbers, add, push, chosen_by, chained, twice, negated, emit_nor, emit_at_most_one}
-use Words.{emit_symbol, zero, ◌-◌, ◌*◌, ◌/◌, ◌++◌, take, drop, subst, arith, range_with_len}
-use Words.{map-append, length-map, Fill, part, tail_of, heads_same, tails_same, declared_clock}
-use Words.{call_clocks, gathered, last_of, iterated, Receives, accumulated, IsCallJoined}
-use Words.{IsIteratorJoined, Target, targets, copied, received, call_copies, iterator_copies}
-use Rattle.{lb_check.specs.Clocks.Clock, lb_flat.proofs.lists.Lists.{Every-first, Every-second}}
-use Rattle.lb_flat.proofs.lists.Lists.{column_long, instants_long, map-maps, Every-append}
-use Rattle.lb_flat.proofs.lists.Lists.{Every-piece, Every-of_pieces, Every-of_range, Every-range}
-use Rattle.lb_expand.proofs.emission.EmissionSteps.{IsAdding, twice_step}
-use Rattle.lb_expand.proofs.lists.Counting.{Count, Counted, more, read_by, any_counted, two_counted}
-use Rattle.lb_expand.proofs.lists.Counting.{any_step, two_step, none_yet, not_two_yet, none_chained}
-use Rattle.lb_expand.proofs.lists.Counting.{at_most_one_counts, AllTruths, IsTruth}
-use Rattle.lb_expand.proofs.lists.Lists.{map-take, map-drop, map-pieces}
+use Words.{And, ApplyBinary, ApplyUnary, AreLong, ArrayIterator, Base, BinaryOperator, Bool}
+use Words.{Boolean, Call, Child, Choose, Constant, Declaration, Emitted, Every, Expr, Exprs, Fill}
+use Words.{FlatClock, FlatEquation, History, Holds, Inputs, Instance, IsCallJoined}
+use Words.{IsIteratorJoined, Iterate, Layout, List, Map, Name, Node, Node_named, None, Not}
+use Words.{Occurrence, On, Operation, Option, Or, Path, Program, Receives, Red, Scalar, Some, State}
+use Words.{Stream, Target, [], accumulated, across, add, all_streams, along, along_two, ap, ap₂}
+use Words.{argument_clocks, argument_streams, arith, at_most_one, base_clock, call_clocks}
+use Words.{call_copies, chained, choice, choices, chosen_by, column, constantly, copied}
+use Words.{declared_clock, drop, emit_at_most_one, emit_nor, emit_symbol, false, flat_clock, fold}
+use Words.{gathered, heads_same, held, instants, iterated, iterator_copies, iterator_inputs}
+use Words.{last_of, length, length-map, map, map-append, negated, node_named, none_true, number}
+use Words.{numbered, numbers, one_scalar, operate, part, presence, push, range_with_len, received}
+use Words.{refl, signed, subst, suc, sym, symbols, tail_of, tails_same, take, targets, twice}
+use Words.{two_scalars, where_signed, zero, zip2, ℕ, ◌*◌, ◌++◌, ◌+◌, ◌-◌, ◌/◌, ◌<◌, ◌∙◌, ◌∷◌, ◌≡◌}
+use Rattle.{lb_check.specs.Clocks.Clock, lb_expand.proofs.emission.EmissionSteps.IsAdding}
+use Rattle.lb_expand.proofs.{emission.EmissionSteps.twice_step, lists.Counting.{AllTruths, Count}}
+use Rattle.lb_expand.proofs.lists.Counting.{Counted, IsTruth, any_counted, any_step}
+use Rattle.lb_expand.proofs.lists.Counting.{at_most_one_counts, more, none_chained, none_yet}
+use Rattle.lb_expand.proofs.lists.{Counting.{read_by, two_counted, two_step}, Lists.map-drop}
+use Rattle.lb_expand.proofs.lists.Lists.{map-pieces, map-take}
+use Rattle.lb_flat.proofs.lists.Lists.{Every-append, Every-first, Every-of_pieces, Every-of_range}
+use Rattle.lb_flat.proofs.lists.Lists.{Every-piece, Every-range, Every-second, column_long}
+use Rattle.lb_flat.proofs.lists.Lists.{instants_long, map-maps}
 
 -- A statement that streams of a flat program agree with a history, and what the types and the
 -- layout give of each occurrence of an expression.
@@ -35,8 +36,7 @@ pub record Agrees (Y : Layout) (X : Inputs) (H : History) (F : List Stream) : Ty
 -- the inputs of an instance are as wide as what they receive
 abbrev pub AreAsWide : History → Path → List Declaration → List (List Stream) → Type 0
 AreAsWide H p [] [] = Unit {0}
-AreAsWide H p (d ∷ ds) (xs ∷ xss) =
-    (length (H.columns p d.name) ≡ length xs) × AreAsWide H p ds xss
+AreAsWide H p (d ∷ ds) (xs ∷ xss) = (length (H.columns p d.name) ≡ length xs) × AreAsWide H p ds xss
 AreAsWide H p ds xss = ⊥
 
 -- an instance that `here` calls runs on the flat clock of the call, and its inputs are as wide as
@@ -65,10 +65,8 @@ IsIteratorPlaced Y P H here k n it m es (Some callee) =
     (iterator_inputs outputs m it callee.outputs args i)
 
 -- what an occurrence calls is placed: the instance of a call, or each instance of an iterator
-abbrev pub IsPlacedAt :
-    Layout → Program → History → Instance → Clock → ℕ → Expr → Type 0
-IsPlacedAt Y P H here k n (Call f statics es) =
-    IsCallPlaced Y P H here k n es (node_named P f)
+abbrev pub IsPlacedAt : Layout → Program → History → Instance → Clock → ℕ → Expr → Type 0
+IsPlacedAt Y P H here k n (Call f statics es) = IsCallPlaced Y P H here k n es (node_named P f)
 IsPlacedAt Y P H here k n (Iterate it (Node_named f statics) m es) =
     IsIteratorPlaced Y P H here k n it (number P here m) es (node_named P f)
 IsPlacedAt Y P H here k n e = Unit {0}
@@ -317,7 +315,8 @@ module _ (X : Inputs) (F : List Stream) where
       let n = negated_sound k t x _ (λ g.
       let p = push_sound k s start (twice_step Earlier earlier k t s.next s.next is g) in
       twice_sound k t s.next s.next is (map (held (Counted 0)) bs) g
-      (p.new ∙ none_yet bs) (p.new ∙ not_two_yet bs)) h in
+      (p.new ∙ none_yet any_counted refl bs)
+      (p.new ∙ none_yet two_counted refl bs)) h in
       let p = push_sound k s (Constant (Boolean false)) n.before in
       record {
         before = p.before;
@@ -368,8 +367,7 @@ module _ (X : Inputs) (F : List Stream) where
   copied_holds (t ∷ ts) (j ∷ js) e =
       ((heads_same _ _ _ _ e, tt), copied_holds ts js (tails_same _ _ _ _ e))
 
-  part_natural :
-      (n i : ℕ) (is : List ℕ) → columns X F (part n i is) ≡ part n i (columns X F is)
+  part_natural : (n i : ℕ) (is : List ℕ) → columns X F (part n i is) ≡ part n i (columns X F is)
   part_natural n i is =
       let m = length is / n in
       map-take (column X F) m (drop (m * i) is)

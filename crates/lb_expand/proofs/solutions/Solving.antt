@@ -53,24 +53,17 @@ assert_copies x = refl
 
 -- every occurrence in the right sides `rs`
 abbrev pub occurrences_of : Program → Node → List Occurrence → List Occurrence
-occurrences_of P here rs =
-    flat_map (λ r. occurrences P here r.clock r.calls_before r.expr) rs
+occurrences_of P here rs = flat_map (λ r. occurrences P here r.clock r.calls_before r.expr) rs
 
 module _ (Y : Layout) (P : Program) (X : Inputs) (H : History) (F : List Stream)
     (long : AreLong X F) (agrees : Agrees Y X H F) where
   module _ (here : Instance) where
-    abbrev AllEqual : List (Statement × Occurrence) → Type 0
-    AllEqual ss = Every (λ s. AreEqual P H here s.0 s.1) ss
-
-    abbrev AllJoined : List Occurrence → Type 0
-    AllJoined os = Every (IsJoined P H here) os
-
     -- the copies of `s` hold, the equations `ss` hold, and the calls in `os` are joined
     pub record There (s : State) (ss : List (Statement × Occurrence)) (os : List Occurrence) :
         Type 0 where
       pub copies : AllMet X F s.copies
-      pub equal : AllEqual ss
-      pub joined : AllJoined os
+      pub equal : Every (λ s. AreEqual P H here s.0 s.1) ss
+      pub joined : Every (IsJoined P H here) os
 
     pub record BodySound (s t : State) (ss : List (Statement × Occurrence))
         (os : List Occurrence) : Type 0 where
@@ -81,13 +74,6 @@ module _ (Y : Layout) (P : Program) (X : Inputs) (H : History) (F : List Stream)
     -- the targets of some left variables
     abbrev left_targets : List Name → List Target
     left_targets lefts = flat_map (targets Y here.node here.path) lefts
-
-    lefts_flat :
-        (lefts : List Name) →
-        flat_map (H.columns here.path) lefts ≡ targeted X F (left_targets lefts)
-    lefts_flat lefts =
-        map-pieces (λ t. column X F t.place) (targets Y here.node here.path)
-        (H.columns here.path) (targets_flat Y X H F agrees here.node here.path) lefts
 
     pub body_sound :
         (n : ℕ) (s : State) (body : List Statement) →
@@ -140,7 +126,8 @@ module _ (Y : Layout) (P : Program) (X : Inputs) (H : History) (F : List Stream)
         let a = sound Y P X H F long agrees here k n s e
         (Every-first (IsPlaced Y P H here) _ _ w)
         (subst (AllMet X F) (joins_equations x.state qs []) r.before) in
-        let left = lefts_flat lefts in
+        let left = map-pieces (λ t. column X F t.place) (targets Y here.node here.path)
+        (H.columns here.path) (targets_flat Y X H F agrees here.node here.path) lefts in
         let as_long : length ts ≡ length x.found =
         sym (length-map ts (λ t. column X F t.place)) ∙ ap length (sym left) ∙ wide.0
         ∙ ap length (sym a.found) ∙ length-map x.found (column X F) in
@@ -169,10 +156,8 @@ module _ (Y : Layout) (P : Program) (X : Inputs) (H : History) (F : List Stream)
 
   pub record AllSound (s t : State) (instances : List Instance) : Type 0 where
     pub before : AllMet X F s.equations
-    pub there :
-        AllMet X F t.copies → AllMet X F s.copies × Every (IsSolvedAt P H) instances
-    pub back :
-        AllMet X F s.copies → Every (IsSolvedAt P H) instances → AllMet X F t.copies
+    pub there : AllMet X F t.copies → AllMet X F s.copies × Every (IsSolvedAt P H) instances
+    pub back : AllMet X F s.copies → Every (IsSolvedAt P H) instances → AllMet X F t.copies
 
   pub all_sound :
       (s : State) (instances : List Instance) → Every (IsSound Y P H) instances →

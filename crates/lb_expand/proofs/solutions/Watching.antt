@@ -1,33 +1,32 @@
 -- The elements that a flat program watches and keeps.
 use Rattle.lb_expand.proofs.Words
-use Words.{append-nil, arith, ◌≡◌, ℕ, ◌+◌, Bool, ◌||◌, Option, Some, None, List, [], ◌∷◌, ◌++◌, map}
-use Words.{flat_map, refl, sym, ap, ap₂, ◌∙◌, subst, map-append, Every, some_of, Node_named, Symbol}
-use Words.{Expr, Literal, Truth, Variable, Group, Unary, Binary, If, Arrow, Fby, Pre, Current, When}
-use Words.{Replicate, Index, Slice, Join, Array, AtMostOne, Nor, Call, Iterate, Exprs, Nil, Cons}
-use Words.{Program, Instance, Stream, first_value, Occurrence, call_count, occurrences}
-use Words.{occurrences_in, occurrences_each, History, Inputs, streams_at, FlatClock, Operation}
-use Words.{Previous, FlatEquation, column, AreLong, Layout, flat_clock, State, Emitted, add, keep}
-use Words.{joins, emit, emit_all, emit_each, zip, Statement, Equation, Assertion, statement_clock}
-use Words.{right_sides, assert, emit_body, emit_instances, range_with_len, listed, Declaration}
-use Words.{instance_at, instances, variables, is_bad, is_nil, is_false, property_path}
-use Words.{variable_columns, clock_variables, history_of, IsWatched, before_instances, clock_places}
-use Words.{property_places, expanded, slice_get}
-use Rattle.std.{specs.List.list_any, proofs.Math.Bool.or_assoc}
-use Rattle.{std.proofs.lemmas.List.Folds.list_any-append, lb_syntax.proofs.TruthValues.or_nothing}
-use Rattle.lb_check.specs.Clocks.{Clock}
-use Rattle.lb_check.specs.Verdicts.{memory_operand, assertion_of, memory_columns, assertion_columns}
-use Rattle.lb_check.specs.Verdicts.{property_columns}
-use Rattle.lb_flat.proofs.lists.Lists.{Every-first, Every-second}
-use Rattle.lb_expand.proofs.emission.EmissionSteps.{IsAdding, IsStep, Any, any_joined, nor_step}
-use Rattle.lb_expand.proofs.emission.EmissionSteps.{at_most_one_step, symbol_step, name_step}
-use Rattle.lb_expand.proofs.emission.EmissionSteps.{emit_step, joins_asserted, assert_asserted}
-use Rattle.lb_expand.proofs.{emission.EmissionSteps.{assert_kept, asserts}, lists.Lists.map-pieces}
-use Rattle.lb_expand.proofs.reads.LinkSymbols.{keep_equations}
+use Words.{AreLong, Array, Arrow, Assertion, AtMostOne, Binary, Bool, Call, Cons, Current}
+use Words.{Declaration, Emitted, Equation, Every, Expr, Exprs, Fby, FlatClock, FlatEquation, Group}
+use Words.{History, If, Index, Inputs, Instance, IsWatched, Iterate, Join, Layout, List, Literal}
+use Words.{Nil, Node_named, None, Nor, Occurrence, Operation, Option, Pre, Previous, Program}
+use Words.{Replicate, Slice, Some, State, Statement, Stream, Symbol, Truth, Unary, Variable, When}
+use Words.{[], add, ap, append-nil, ap₂, arith, assert, before_instances, call_count, clock_places}
+use Words.{clock_variables, column, emit, emit_all, emit_body, emit_each, emit_instances, expanded}
+use Words.{first_value, flat_clock, flat_map, history_of, instance_at, instances, is_bad, is_false}
+use Words.{is_nil, joins, keep, listed, map, map-append, occurrences, occurrences_each}
+use Words.{occurrences_in, property_path, property_places, range_with_len, refl, right_sides}
+use Words.{slice_get, some_of, statement_clock, streams_at, subst, sym, variable_columns, variables}
+use Words.{zip, ℕ, ◌++◌, ◌+◌, ◌||◌, ◌∙◌, ◌∷◌, ◌≡◌}
+use Rattle.lb_check.specs.{Clocks.Clock, Verdicts.{assertion_columns, assertion_of, memory_columns}}
+use Rattle.lb_check.specs.Verdicts.{memory_operand, property_columns}
+use Rattle.lb_expand.proofs.emission.EmissionSteps.{Any, IsAdding, IsStep, any_joined}
+use Rattle.lb_expand.proofs.emission.EmissionSteps.{assert_asserted, assert_kept, asserts}
+use Rattle.lb_expand.proofs.emission.EmissionSteps.{at_most_one_step, emit_step, joins_asserted}
+use Rattle.lb_expand.proofs.emission.EmissionSteps.{name_step, nor_step, symbol_step}
+use Rattle.lb_expand.proofs.{lists.Lists.map-pieces, reads.LinkSymbols.keep_equations}
 use Rattle.lb_expand.proofs.solutions.Emission.{joins_equations, sound, sound_all, sound_each}
-use Rattle.lb_expand.proofs.solutions.Placing.{columns, AllMet, Agrees, IsPlaced, Earlier}
-use Rattle.lb_expand.proofs.solutions.Placing.{earlier as adding_met}
-use Rattle.lb_expand.proofs.solutions.Solving.{IsWide, IsSound, occurrences_of, assert_equations}
-use Rattle.lb_expand.proofs.solutions.Solving.{body_sound, all_sound}
+use Rattle.lb_expand.proofs.solutions.Placing.{Agrees, AllMet, Earlier, IsPlaced, columns}
+use Rattle.lb_expand.proofs.solutions.{Placing.earlier as adding_met, Solving.{IsSound, IsWide}}
+use Rattle.lb_expand.proofs.solutions.Solving.{all_sound, assert_equations, body_sound}
+use Rattle.lb_expand.proofs.solutions.Solving.{occurrences_of}
+use Rattle.lb_flat.proofs.lists.Lists.{Every-first, Every-second}
+use Rattle.{lb_syntax.proofs.TruthValues.or_nothing, std.proofs.Math.Bool.or_assoc}
+use Rattle.std.{proofs.lemmas.List.Folds.list_any-append, specs.List.list_any}
 
 -- The elements that a state lists as kept hold exactly the operands that memories keep: a test
 -- passes at a kept element exactly where it passes at such an operand.
@@ -57,10 +56,6 @@ pub joins_kept :
     → (joins s qs is).state.memory_operands ≡ s.memory_operands
 unfolding joins
 joins_kept s qs is = refl
-
-keep_kept : (x : Emitted) → (keep x).state.memory_operands ≡ x.state.memory_operands ++ x.found
-unfolding keep
-keep_kept x = refl
 
 module _ (Y : Layout) (P : Program) (X : Inputs) (H : History) (F : List Stream)
     (long : AreLong X F) (agrees : Agrees Y X H F) (here : Instance) where
@@ -140,10 +135,10 @@ module _ (Y : Layout) (P : Program) (X : Inputs) (H : History) (F : List Stream)
       {s : State} (x : Emitted) {xss : List Stream} {o : Occurrence} {os : List Occurrence} →
       operands (o ∷ os) ≡ xss ++ operands os → columns X F x.found ≡ xss → Keeps s x.state os →
       Keeps s (keep x).state (o ∷ os)
+  unfolding keep
   keeps_own {s = s} x {xss = xss} {os = os} q e h = record {
     same = λ test.
-        ap (passes test) (keep_kept x)
-        ∙ ap (list_any test) (map-append (column X F) x.state.memory_operands x.found)
+        ap (list_any test) (map-append (column X F) x.state.memory_operands x.found)
         ∙ list_any-append test (columns X F x.state.memory_operands) (columns X F x.found)
         ∙ ap₂ (λ c xss. c || list_any test xss) (h.same test) e
         ∙ or_swap (passes test s.memory_operands) (list_any test (operands os)) (list_any test xss)
@@ -151,8 +146,7 @@ module _ (Y : Layout) (P : Program) (X : Inputs) (H : History) (F : List Stream)
         (sym (list_any-append test xss (operands os)) ∙ ap (list_any test) (sym q));
   }
 
-  unkept :
-      (x : Emitted) → AllMet X F (keep x).state.equations → AllMet X F x.state.equations
+  unkept : (x : Emitted) → AllMet X F (keep x).state.equations → AllMet X F x.state.equations
   unkept x h = subst (AllMet X F) (keep_equations x) h
 
   earlier : IsStep Any (Earlier X F)
@@ -309,8 +303,7 @@ module _ (Y : Layout) (P : Program) (X : Inputs) (H : History) (F : List Stream)
 
   -- the streams of the assertions among these statements
   abbrev asserted_in : List (Statement × Occurrence) → List Stream
-  asserted_in ss =
-      flat_map (streams_at P H here) (some_of (map (λ s. assertion_of s.0 s.1) ss))
+  asserted_in ss = flat_map (streams_at P H here) (some_of (map (λ s. assertion_of s.0 s.1) ss))
 
   record BodyWatched (s t : State) (ss : List (Statement × Occurrence))
       (os : List Occurrence) : Type 0 where
@@ -503,8 +496,7 @@ module _ (Y : Layout) (P : Program) (count : ℕ) (X : Inputs) (F : List Stream)
       ∙ ap (λ a. list_any test (columns X F is) || a)
       (list_any-append test (columns X F js) (columns X F ks))
 
-  property_flat :
-      property_columns P (history_of Y X F) ≡ columns X F (property_places Y P)
+  property_flat : property_columns P (history_of Y X F) ≡ columns X F (property_places Y P)
   property_flat =
       listed_flat (column X F)
       (λ here. flat_map (λ d. Y.places here.path d.name) here.node.outputs)

@@ -1,33 +1,32 @@
 -- A flat program has at most five times as many elements as the size of its program.
 use Rattle.lb_expand.proofs.Words
-use Words.{◌≡◌, ℕ, ◌+◌, ◌*◌, ◌≤◌, false, true, pos, Option, Some, None, option_map, List, [], ◌∷◌}
-use Words.{◌++◌, map, length, flat_map, refl, sym, ap, ◌∙◌, subst, arith, sum_by, list_all}
-use Words.{range_with_len, length-map, sum_by-cons, sum_by-append, length-range_with_len, same_Some}
-use Words.{Not, BinaryOperator, Or, ArrayIterator, Map, Red, Every, zip2, joined, either_or, Name}
-use Words.{Node_named, Symbol, Expr, Literal, Truth, Variable, Group, Unary, Binary, If, Arrow, Fby}
-use Words.{Pre, Current, When, Replicate, Index, Slice, Join, Array, AtMostOne, Nor, Call, Iterate}
-use Words.{Exprs, Nil, Cons, Declaration, Statement, Equation, Assertion, and_first, and_second}
-use Words.{DataType, element_count, variables, variable_type, width, Program, Instance, name_value}
-use Words.{node_named, static_count, instances, parts, parts_in, node_parts, right_side, named}
-use Words.{check_refusal, On, instance_elements, program_elements}
-use Words.{elements, Occurrence, call_count, call_clocks, occurrences, occurrences_in}
-use Words.{occurrences_each, statement_clock, right_sides, node_occurrences, Boolean, first_value}
-use Words.{is_clock_typed, is_statement_typed, is_typed, expression_size, instance_size, size}
-use Words.{data_types, all_types, singly, name_data_type, from_one, from_truths, unary_type}
-use Words.{binary_type, common_type, array_of, index_type, slice_type, join_type, operator_types}
-use Words.{constant_type, all_typed, bound, first_of_all, State, Emitted, add, push, chained, twice}
-use Words.{emit_nor, emit_at_most_one, keep, assert, joins, copied, targets, chosen_by, emit_symbol}
-use Words.{emit_name, emit, emit_all, emit_each, emit_body, emit_instances, before_instances}
-use Words.{expanded, FlatClock, Operation, Constant, ApplyUnary, ApplyBinary, Choose, FirstThen}
-use Words.{Previous, Latest, Sample, FlatEquation, Layout, flat_clock, length-append}
-use Rattle.{lb_static.specs.DataTypes.total, lb_check.specs.Clocks.{Clock}}
-use Rattle.lb_check.proofs.{programs.OccurrenceParts.right_typed, typing.OperandTypes.{one, two}}
-use Rattle.{lb_check.proofs.typing.OperandTypes.from_true, lb_flat.proofs.lists.Lists.Every-map}
-use Rattle.lb_flat.proofs.lists.Lists.{Every-both, Every-first, Every-second}
-use Rattle.lb_expand.proofs.emission.EmittedRooms.{chained_next, chained_one, twice_next, twice_one}
+use Words.{ApplyBinary, ApplyUnary, Array, ArrayIterator, Arrow, Assertion, AtMostOne, Binary}
+use Words.{BinaryOperator, Call, Choose, Cons, Current, DataType, Declaration, Emitted, Equation}
+use Words.{Every, Expr, Exprs, Fby, FirstThen, FlatClock, FlatEquation, Group, If, Index, Instance}
+use Words.{Iterate, Join, Latest, Layout, List, Literal, Map, Name, Nil, Node_named, None, Nor}
+use Words.{Occurrence, On, Operation, Option, Pre, Previous, Program, Red, Replicate, Sample, Slice}
+use Words.{Some, State, Statement, Symbol, Truth, Unary, Variable, When, [], add, all_typed}
+use Words.{all_types, and_first, and_second, ap, arith, array_of, assert, before_instances}
+use Words.{binary_type, bound, call_clocks, call_count, check_refusal, chosen_by, common_type}
+use Words.{constant_type, copied, data_types, either_or, element_count, elements, emit, emit_all}
+use Words.{emit_body, emit_each, emit_instances, emit_name, emit_symbol, expanded, expression_size}
+use Words.{false, first_of_all, first_value, flat_clock, flat_map, from_one, from_truths}
+use Words.{index_type, instance_elements, instance_size, instances, is_clock_typed}
+use Words.{is_statement_typed, is_typed, join_type, joined, joins, keep, length, length-append}
+use Words.{length-map, length-range_with_len, list_all, map, name_data_type, name_value, named}
+use Words.{node_named, node_occurrences, node_parts, occurrences, occurrences_each, occurrences_in}
+use Words.{operator_types, option_map, parts, parts_in, pos, program_elements, range_with_len, refl}
+use Words.{right_side, right_sides, same_Some, singly, size, slice_type, statement_clock}
+use Words.{static_count, sum_by, sum_by-append, sum_by-cons, sym, targets, true, unary_type}
+use Words.{variable_type, variables, width, zip2, ℕ, ◌*◌, ◌++◌, ◌+◌, ◌∙◌, ◌∷◌, ◌≡◌, ◌≤◌}
+use Rattle.lb_check.proofs.{programs.OccurrenceParts.right_typed, typing.OperandTypes.from_true}
+use Rattle.lb_check.{proofs.typing.OperandTypes.{one, two}, specs.Clocks.Clock}
+use Rattle.lb_expand.proofs.emission.EmittedRooms.{chained_next, nor_next, one_next}
 use Rattle.lb_expand.proofs.emission.TermSteps.{next_of_add, next_of_keep}
 use Rattle.lb_expand.proofs.{solutions.Solving.occurrences_of, widths.FoundWidths.keep_count}
-use Rattle.lb_expand.proofs.widths.TypeFacts.{elements_in, constant}
+use Rattle.lb_expand.proofs.widths.TypeFacts.{constant, elements_in}
+use Rattle.lb_flat.proofs.lists.Lists.{Every-both, Every-first, Every-map, Every-second}
+use Rattle.lb_static.specs.DataTypes.{total}
 
 -- ## New elements
 
@@ -35,10 +34,6 @@ joins_next : (s : State) (qs : List FlatEquation) (is : List ℕ) →
     (joins s qs is).state.next ≡ s.next
 unfolding joins
 joins_next s qs is = refl
-
-assert_next : (x : Emitted) → (assert x).next ≡ x.state.next
-unfolding assert
-assert_next x = refl
 
 zip_few : {A B C : Type 0} (f : A → B → C) (xs : List A) (ys : List B) →
     length (zip2 f xs ys) ≤ length xs
@@ -49,28 +44,6 @@ zip_few f (x ∷ xs) (y ∷ ys) = let e = zip_few f xs ys in omega (arith, e)
 chosen_few : (cs xs ys : List ℕ) → length (chosen_by cs xs ys) ≤ length xs
 chosen_few [] xs ys = omega arith
 chosen_few (c ∷ cs) xs ys = zip_few (Choose c) xs ys
-
-nor_next : (k : FlatClock) (s : State) (is : List ℕ) →
-    (emit_nor k s is).state.next ≡ s.next + length is + 2
-nor_next k s is =
-    let t = push k s (Constant (Boolean false)) in
-    let r = chained k Or t s.next is in
-    let a = next_of_add k r.state (map (ApplyUnary Not) r.found) in
-    let b = chained_next k Or t s.next is in
-    let c = length-map r.found (ApplyUnary Not) in
-    let d = chained_one k Or t s.next is in
-    omega (arith, a, b, c, d)
-
-at_most_one_next : (k : FlatClock) (s : State) (is : List ℕ) →
-    (emit_at_most_one k s is).state.next ≡ s.next + 3 * length is + 2
-at_most_one_next k s is =
-    let t = push k s (Constant (Boolean false)) in
-    let r = twice k t s.next s.next is in
-    let a = next_of_add k r.state (map (ApplyUnary Not) r.found) in
-    let b = twice_next k t s.next s.next is in
-    let c = length-map r.found (ApplyUnary Not) in
-    let d = twice_one k t s.next s.next is in
-    omega (arith, a, b, c, d)
 
 symbol_next :
     (k : FlatClock) (op : BinaryOperator) (s : State) (it : ArrayIterator)
@@ -369,7 +342,7 @@ module _ (P : Program) (here : Instance) where
       few k n s (AtMostOne es) ts e w =
           let t = from_true (all_types P here es) ts e in
           let r = emit_all Y P here k n s es in
-          let next = at_most_one_next (flat_clock Y here.path k) r.state (joined r.found) in
+          let next = one_next (flat_clock Y here.path k) r.state (joined r.found) in
           let many = all_counted k n s es t.data_types t.is w.1 in
           after_truths (ap elements_in t.all) (few_all k n s es t.data_types t.is w.1)
           (omega (arith, next, many)) (own_weight (AtMostOne es) ts (parts_in es) e)
@@ -434,7 +407,7 @@ module _ (P : Program) (here : Instance) where
         AllHave (occurrences_of P here.node (right_sides P here.node n body)) →
         IsCheap s.next (emit_body Y P here n s body).next
         (weight (flat_map (λ s. parts (right_side s)) body))
-    unfolding emit_body
+    unfolding emit_body assert
     few_body n s [] e w = record { few = omega arith }
     few_body n s (Equation lefts a ∷ rest) e w =
         let typed = is_statement_typed P here (Equation lefts a) in
@@ -453,9 +426,7 @@ module _ (P : Program) (here : Instance) where
         let k = statement_clock P here.node (Assertion a) in
         let x = emit Y P here k n s a in
         each_more (few k n s a t.0 t.1 (fore _ _ w))
-        (subst (λ m. IsCheap m (emit_body Y P here (n + call_count a) (assert x) rest).next
-        (weight (flat_map (λ s. parts (right_side s)) rest))) (assert_next x)
-        (few_body (n + call_count a) (assert x) rest (and_second typed _ e) (aft _ _ w)))
+        (few_body (n + call_count a) (assert x) rest (and_second typed _ e) (aft _ _ w))
         (sum_by-append (expression_size P here) (parts a)
         (flat_map (λ s. parts (right_side s)) rest))
 

@@ -1,19 +1,18 @@
 -- Expansion finds as many elements for an expression as the expression has streams in a history
 -- that has a stream for each element of a variable.
 use Rattle.lb_expand.proofs.Words
-use Words.{◌≡◌, ℕ, zero, suc, ◌+◌, ◌-◌, ◌*◌, ◌/◌, Option, Some, None, option_map, List, [], ◌∷◌}
-use Words.{map, length, drop, flat_map, refl, sym, ap, ap₂, ◌∙◌, arith, length-map, Not}
-use Words.{BinaryOperator, Or, ArrayIterator, Map, Red, Fill, zip2, copies, joined, part, tail_of}
-use Words.{either_or, Name, Node_named, Symbol, Expr, Literal, Truth, Variable, Group, Unary}
-use Words.{Binary, If, Arrow, Fby, Pre, Current, When, Replicate, Index, Slice, Join, Array}
-use Words.{AtMostOne, Nor, Call, Iterate, Exprs, Nil, Cons, Declaration, heads_same, tails_same}
-use Words.{Program, Instance, Path, Child, name_value, Stream, or_fault, On, call_count, History}
-use Words.{presence, constantly, choice, choices, gathered, last_of, iterated, symbols, streams}
-use Words.{all_streams, argument_streams, accumulated, iterator_inputs, FlatClock, Operation}
-use Words.{ApplyUnary, ApplyBinary, Choose, Layout, flat_clock, State, Emitted, numbers, add, joins}
-use Words.{keep, chosen_by, negated, emit_nor, emit_at_most_one, emit_symbol, emit_name, emit}
-use Words.{emit_all, emit_each, length-append}
-use Rattle.lb_check.{specs.Clocks.Clock, proofs.clocking.ClockDepths.{same_taken, same_dropped}}
+use Words.{ApplyBinary, ApplyUnary, Array, ArrayIterator, Arrow, AtMostOne, Binary, BinaryOperator}
+use Words.{Call, Child, Choose, Cons, Current, Declaration, Emitted, Expr, Exprs, Fby, Fill}
+use Words.{FlatClock, Group, History, If, Index, Instance, Iterate, Join, Layout, List, Literal}
+use Words.{Map, Name, Nil, Node_named, None, Nor, Not, On, Operation, Option, Or, Path, Pre}
+use Words.{Program, Red, Replicate, Slice, Some, State, Stream, Symbol, Truth, Unary, Variable}
+use Words.{When, [], accumulated, add, all_streams, ap, ap₂, argument_streams, arith, call_count}
+use Words.{choice, choices, chosen_by, constantly, copies, drop, either_or, emit, emit_all}
+use Words.{emit_each, emit_name, emit_symbol, flat_clock, flat_map, gathered, heads_same, iterated}
+use Words.{iterator_inputs, joined, joins, keep, last_of, length, length-append, length-map, map}
+use Words.{name_value, negated, numbers, option_map, or_fault, part, presence, refl, streams, suc}
+use Words.{sym, symbols, tail_of, tails_same, zero, zip2, ℕ, ◌*◌, ◌+◌, ◌-◌, ◌/◌, ◌∙◌, ◌∷◌, ◌≡◌}
+use Rattle.lb_check.{proofs.clocking.ClockDepths.{same_dropped, same_taken}, specs.Clocks.Clock}
 use Rattle.lb_expand.proofs.emission.EmittedRooms.{chained_one, twice_one}
 
 -- ## Lists of one length
@@ -137,18 +136,10 @@ choices_count :
 choices_count [] xs ys [] vs ws c p q = refl
 choices_count [] xs ys (u ∷ us) vs ws c p q = absurd (omega arith)
 choices_count (z ∷ cs) xs ys [] vs ws c p q = absurd (omega arith)
-choices_count (z ∷ cs) xs ys (u ∷ us) vs ws c p q =
-    length-zip (Choose z) (choice u) xs ys vs ws p q
+choices_count (z ∷ cs) xs ys (u ∷ us) vs ws c p q = length-zip (Choose z) (choice u) xs ys vs ws p q
 
 negated_count : (k : FlatClock) (x : Emitted) → length (negated k x).found ≡ length x.found
 negated_count k x = add_count k _ _ ∙ length-map x.found (ApplyUnary Not)
-
-nor_count : (k : FlatClock) (s : State) (is : List ℕ) → length (emit_nor k s is).found ≡ 1
-nor_count k s is = negated_count k _ ∙ chained_one k Or _ _ is
-
-at_most_one_count : (k : FlatClock) (s : State) (is : List ℕ) →
-    length (emit_at_most_one k s is).found ≡ 1
-at_most_one_count k s is = negated_count k _ ∙ twice_one k _ _ _ is
 
 symbol_count :
     (k : FlatClock) (op : BinaryOperator) (s : State) (it : ArrayIterator)
@@ -164,15 +155,10 @@ symbol_count k op s Red [] [] e = refl
 symbol_count k op s Red ([] ∷ xss) ([] ∷ yss) e = refl
 symbol_count k op s Red ((i ∷ []) ∷ []) ((v ∷ []) ∷ []) e = refl
 symbol_count k op s Red ((i ∷ (j ∷ is)) ∷ xss) ((v ∷ (w ∷ vs)) ∷ yss) e = refl
-symbol_count k op s Red ((i ∷ []) ∷ (y ∷ [])) ((v ∷ []) ∷ (w ∷ [])) e =
-    chained_one k op s i y
+symbol_count k op s Red ((i ∷ []) ∷ (y ∷ [])) ((v ∷ []) ∷ (w ∷ [])) e = chained_one k op s i y
 symbol_count k op s Red ((i ∷ []) ∷ (y ∷ (z ∷ xss))) ((v ∷ []) ∷ (w ∷ (u ∷ yss))) e = refl
 symbol_count k op s Fill xss yss e = refl
 symbol_count k op s _ _ _ e = absurd cc
-
-joins_count : (s : State) (qs : List _) (is : List ℕ) → length (joins s qs is).found ≡ length is
-unfolding joins
-joins_count s qs is = refl
 
 -- ## Expressions
 
@@ -197,7 +183,7 @@ module _ (Y : Layout) (P : Program) (H : History) (here : Instance)
   name_count k s x (Some d) = same here.path d.name
 
   mutual
-    unfolding emit
+    unfolding emit joins
 
     pub as_many : (k : Clock) (n : ℕ) (s : State) (e : Expr) →
         length (emit Y P here k n s e).found ≡ length (streams P H here k n e)
@@ -245,17 +231,16 @@ module _ (Y : Layout) (P : Program) (H : History) (here : Instance)
           length-append (streams P H here k n a) (streams P H here k (n + call_count a) b),
         )
     as_many k n s (Array es) = length-joins _ _ (all_as_many k n s es)
-    as_many k n s (AtMostOne es) = at_most_one_count _ _ _
-    as_many k n s (Nor es) = nor_count _ _ _
+    as_many k n s (AtMostOne es) = (negated_count _ _ ∙ twice_one _ _ _ _ _)
+    as_many k n s (Nor es) = (negated_count _ _ ∙ chained_one _ Or _ _ _)
     as_many k n s (Call f statics es) =
-        joins_count _ _ _ ∙ length-pieces
+        length-pieces
         (λ (o : Declaration). Y.places (Child here.path n 0) o.name) (λ (o : Declaration).
         H.columns (Child here.path n 0) o.name) (λ o. same (Child here.path n 0) o.name) _
     as_many k n s (Iterate it (Node_named f statics) m es) =
-        joins_count _ _ _ ∙ length-iterated (λ i x. Y.places (Child here.path n i) x)
+        length-iterated (λ i x. Y.places (Child here.path n i) x)
         (λ i x. H.columns (Child here.path n i) x) (λ i x. same (Child here.path n i) x) _ it _
-    as_many k n s (Iterate it (Symbol op) m es) =
-        symbol_count _ op _ it _ _ (all_as_many k n s es)
+    as_many k n s (Iterate it (Symbol op) m es) = symbol_count _ op _ it _ _ (all_as_many k n s es)
 
     pub all_as_many : (k : Clock) (n : ℕ) (s : State) (es : Exprs) →
         map length (emit_all Y P here k n s es).found ≡ map length (all_streams P H here k n es)

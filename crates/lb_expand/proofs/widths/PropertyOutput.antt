@@ -71,8 +71,7 @@ module _ (P : Program) (accepted : static_refusal P ≡ None) where
       ∙ rest in
       and_first (is_some (node_named P f)) true one
 
-  not_none :
-      (g : Node → Instance) (o : Option Node) → is_some o ≡ true → option_map g o ≡ None → ⊥
+  not_none : (g : Node → Instance) (o : Option Node) → is_some o ≡ true → option_map g o ≡ None → ⊥
   not_none g None e h = absurd cc
   not_none g (Some n) e h = absurd cc
 

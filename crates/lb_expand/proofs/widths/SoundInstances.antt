@@ -1,19 +1,19 @@
 -- The widths of typed instances, in histories with a stream for each element.
 use Rattle.lb_expand.proofs.Words
-use Words.{◌≡◌, ℕ, ◌≤◌, Some, None, length, refl, Every, In, Node_named, Expr, Call, Iterate}
-use Words.{Program, Instance, Site, node_sites, numbered_sites, children, instances, level}
-use Words.{static_refusal, variables, width, node_occurrences, History, Every-at, Every-from}
-use Words.{instantiation_kept, OfCalled, Every-map, Every-both, own_site, node_calls, IsEntered}
-use Words.{all_entered, all_children, all_called, ◌+◌, ◌<◌, true, Option, List, subst, list_all}
-use Words.{Node, and_second, Child, node_named, DataType, data_types, base_clock, Occurrence}
-use Words.{call_clocks, occurrences, occurrences_each, number, Layout, flat_clock, check_refusal}
-use Words.{HasTypes, occurrences_typed, is_clock_typed, is_statement_typed, is_typed}
-use Rattle.lb_check.specs.Clocks.{Clock}
-use Rattle.lb_expand.proofs.solutions.Placing.{IsCallPlaced, IsIteratorPlaced, IsPlacedAt, IsPlaced}
-use Rattle.lb_expand.proofs.solutions.Solving.{IsSound}
-use Rattle.lb_expand.proofs.widths.PlacedCalls.{body_wide, call_as_wide, iterator_as_wide}
-use Rattle.lb_expand.proofs.widths.Widths.{AreVariablesWide, IsWideAt, IsOccurrenceWide, IsTypedAt}
-use Rattle.lb_expand.proofs.widths.Widths.{PartsHave, nested_node}
+use Words.{Call, Child, DataType, Every, Every-at, Every-both, Every-from, Every-map, Expr}
+use Words.{HasTypes, History, In, Instance, IsEntered, Iterate, Layout, List, Node, Node_named}
+use Words.{None, Occurrence, OfCalled, Option, Program, Site, Some, all_called, all_children}
+use Words.{all_entered, and_second, base_clock, call_clocks, check_refusal, children, data_types}
+use Words.{flat_clock, instances, instantiation_kept, is_clock_typed, is_statement_typed, is_typed}
+use Words.{length, level, list_all, node_calls, node_named, node_occurrences, node_sites, number}
+use Words.{numbered_sites, occurrences, occurrences_each, occurrences_typed, own_site, refl}
+use Words.{right_sides, static_refusal, subst, true, variables, width, ℕ, ◌+◌, ◌<◌, ◌≡◌, ◌≤◌}
+use Rattle.{lb_check.specs.Clocks.Clock, lb_expand.proofs.solutions.Placing.IsCallPlaced}
+use Rattle.lb_expand.proofs.solutions.Placing.{IsIteratorPlaced, IsPlaced, IsPlacedAt}
+use Rattle.lb_expand.proofs.{solutions.Solving.IsSound, widths.PlacedCalls.body_wide}
+use Rattle.lb_expand.proofs.widths.PlacedCalls.{call_as_wide, iterator_as_wide}
+use Rattle.lb_expand.proofs.widths.Widths.{AreVariablesWide, IsOccurrenceWide, IsTypedAt, IsWideAt}
+use Rattle.lb_expand.proofs.widths.Widths.{PartsHave, nested_all}
 pub use Rattle.lb_check.proofs.programs.AcceptedRules.{all_typed}
 
 -- In an accepted program whose rules hold, and in a history with a stream for each element of a
@@ -76,7 +76,8 @@ occurrences_at P accepted checked H here i w =
     (Every-both (HasTypes P here) (PartsHave P here.node (IsOccurrenceWide P H here)) all
     (Every-at (λ here. Every (HasTypes P here) (node_occurrences P here.node)) (instances P) here
     (occurrences_typed P accepted checked) i)
-    (nested_node P here.node (IsOccurrenceWide P H here) w))
+    (nested_all P here.node (IsOccurrenceWide P H here) (right_sides P here.node 0 here.node.body)
+    w))
 
 -- An instance that is typed is sound: its equations and its calls have the widths of their types.
 
@@ -125,8 +126,7 @@ module _ (Y : Layout) (P : Program) (H : History) (here : Instance) where
         }
     call_placed k n e ts typed_e runs w = tt
 
-    occurrence_placed :
-        (o : Occurrence) → IsTypedAt P H here o × RunsAt o → IsPlaced Y P H here o
+    occurrence_placed : (o : Occurrence) → IsTypedAt P H here o × RunsAt o → IsPlaced Y P H here o
     occurrence_placed o h =
         call_placed o.clock o.calls_before o.expr h.0.types h.0.are h.1 h.0.parts
 

@@ -1,27 +1,26 @@
 -- The widths of an accepted program, its observer among them, and the number of its elements.
 use Rattle.lb_expand.proofs.Words
-use Words.{◌≡◌, Option, Some, None, IfSome, option_map, List, [], ◌∷◌, map, length, flat_map, refl}
-use Words.{sym, ap, ◌∙◌, length-map, Kind, Every, either_or, listed, Name, Declaration, Program}
-use Words.{Instance, Root, instance_at, DataType, width, variable_type, element_count}
-use Words.{scalar_elements, signature, input_kinds, pieces_count, Layout, true, ◌++◌, ap₂, nat_le}
-use Words.{same_Some, all_some, and_first, and_second, heads_same, tails_same, Path, Observer}
-use Words.{instances, variables, input_types, static_refusal, has_plain_clocks, has_property}
-use Words.{fits_observer, is_root, check_refusal, node_occurrences, Stream, Inputs, columns_at}
-use Words.{History, all_typed, Every-at, Every-from, instantiation_kept, in_instances, path_is}
-use Words.{column, history_of, layout, ℕ, ◌*◌, ◌≤◌, arith, nat_tests, program_elements, size}
-use Words.{is_small, expanded, targets}
-use Rattle.lb_static.{specs.DataTypes.element_names, proofs.ElementNames.length-element_names}
+use Words.{DataType, Declaration, Every, Every-at, Every-from, History, IfSome, Inputs, Instance}
+use Words.{Kind, Layout, List, Name, None, Observer, Option, Path, Program, Root, Some, Stream, []}
+use Words.{all_some, all_typed, and_first, and_second, ap, ap₂, arith, check_refusal, column}
+use Words.{columns_at, either_or, element_count, expanded, fits_observer, flat_map}
+use Words.{has_plain_clocks, has_property, heads_same, history_of, in_instances, input_kinds}
+use Words.{input_types, instance_at, instances, instantiation_kept, is_root, is_small, layout}
+use Words.{length, length-map, listed, map, nat_le, nat_tests, node_occurrences, option_map}
+use Words.{path_is, pieces_count, program_elements, refl, same_Some, scalar_elements, signature}
+use Words.{size, static_refusal, sym, tails_same, targets, true, variable_type, variables, width, ℕ}
+use Words.{◌*◌, ◌++◌, ◌∙◌, ◌∷◌, ◌≡◌, ◌≤◌}
 use Rattle.lb_check.proofs.clocking.NamedClocks.{if_some}
-use Rattle.lb_flat.proofs.lists.Lists.{Every-map, Every-both, Every-append, Every-first}
-use Rattle.lb_flat.proofs.{lists.Lists.{Every-second, Every-in}, solutions.StandingRuns.root_kept}
-use Rattle.lb_expand.specs.Emit.{input_targets}
-use Rattle.lb_expand.proofs.numbering.NumberedPlaces.{variables_wide, found_wide}
-use Rattle.lb_expand.proofs.solutions.{Placing.AreAsWide, Solving.{IsSound, IsProgramSound}}
-use Rattle.lb_expand.proofs.widths.TypeFacts.{both_there, each, width_of, are_counts}
-use Rattle.lb_expand.proofs.widths.ElementBound.{IsCounted, few_elements}
-use Rattle.lb_expand.proofs.widths.SoundInstances.{RunsAt, instance_sound, calls_wide}
-use Rattle.lb_expand.proofs.widths.SoundInstances.{occurrences_at}
+use Rattle.lb_expand.proofs.numbering.NumberedPlaces.{found_wide, variables_wide}
+use Rattle.lb_expand.proofs.solutions.{Placing.AreAsWide, Solving.{IsProgramSound, IsSound}}
+use Rattle.lb_expand.proofs.widths.{ElementBound.{IsCounted, few_elements}, SoundInstances.RunsAt}
+use Rattle.lb_expand.proofs.widths.SoundInstances.{calls_wide, instance_sound, occurrences_at}
+use Rattle.lb_expand.proofs.widths.TypeFacts.{are_counts, both_there, each, width_of}
 use Rattle.lb_expand.proofs.widths.Widths.{AreVariablesWide, IsOccurrenceWide, IsTypedAt}
+use Rattle.{lb_expand.specs.Emit.input_targets, lb_flat.proofs.lists.Lists.Every-append}
+use Rattle.lb_flat.proofs.lists.Lists.{Every-both, Every-first, Every-in, Every-map, Every-second}
+use Rattle.lb_flat.proofs.solutions.StandingRuns.{root_kept}
+use Rattle.lb_static.{proofs.ElementNames.length-element_names, specs.DataTypes.element_names}
 
 -- ## The signature
 

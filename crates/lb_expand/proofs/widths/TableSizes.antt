@@ -1,49 +1,40 @@
 -- The size of a program, as the rows of its table and the found types of its terms count it.
 use Rattle.lb_expand.proofs.Words
-use Words.{◌≡◌, ℕ, suc, ◌+◌, ◌<◌, ◌≤◌, min, false, List, [], ◌∷◌, flat_map, take}
-use Words.{get_or, length, Some, refl, ap, sym, ◌∙◌, subst, arith, slice_get, sum_by, nat_le}
-use Words.{nat_lt, nat_tests, length-append, take_all, sum_by-cons, sum_by_more, same_Some}
-use Words.{variables, width, Program, Instance, instances, IsTable, node_parts, IsReached, Reached}
-use Words.{Table, instance_elements, program_elements, expression_size, size, is_small}
-use Words.{specialized_instance, sum_of, widths_in, element_total, term_total, Option, None}
-use Words.{option_map, Vec, Global, map, ap₂, slice_get_within, In, either_or, elaborated_program}
-use Words.{IsChecked, Checking, NodeTypes, lent_size, Counts, inl, inr, ◌-◌, ◌^◌}
-use Rattle.{std.proofs.Common.max, lb_static.proofs.Members.contains_in}
+use Words.{Checking, Counts, Global, In, Instance, IsChecked, IsReached, IsTable, List, NodeTypes}
+use Words.{None, Option, Program, Reached, Some, Table, Vec, [], ap, ap₂, arith, either_or}
+use Words.{elaborated_program, element_total, expression_size, false, flat_map, get_or, inl, inr}
+use Words.{instance_elements, instances, is_small, length, length-append, lent_size, map, min}
+use Words.{nat_le, nat_lt, nat_tests, node_parts, option_map, program_elements, refl, same_Some}
+use Words.{size, slice_get, slice_get_within, specialized_instance, subst, suc, sum_by, sum_by-cons}
+use Words.{sum_by_more, sum_of, sym, take, take_all, term_total, variables, width, widths_in, ℕ}
+use Words.{◌+◌, ◌-◌, ◌<◌, ◌^◌, ◌∙◌, ◌∷◌, ◌≡◌, ◌≤◌}
+use Rattle.lb_check.proofs.typing.FoundTypes.{size_found, types_lent}
 use Rattle.lb_check.specs.{FoundTerms.HasFoundTypes, declared.found_types.TermType.TermType}
-use Rattle.lb_check.proofs.typing.FoundTypes.{types_lent, size_found}
-use Rattle.lb_expand.{specs.TableSizes.HasTermSizes, proofs.numbering.NumberedRows.elements_wide}
-use Rattle.lb_expand.proofs.numbering.{NumberedRows.first_is, RowInstances.{IsRow, rows_many}}
-use Rattle.lb_expand.proofs.numbering.{RowInstances.row_shown, StoredLayouts.sum_mapped}
+use Rattle.lb_expand.proofs.numbering.{NumberedRows.{elements_wide, first_is}, RowInstances.IsRow}
+use Rattle.lb_expand.proofs.numbering.RowInstances.{row_shown, rows_many}
+use Rattle.lb_expand.{proofs.numbering.StoredLayouts.sum_mapped, specs.TableSizes.HasTermSizes}
+use Rattle.{lb_static.proofs.Members.contains_in, std.proofs.Common.max}
 use Rattle.lb_static.specs.declared.table.Instance as row
 
 -- The size that counting the rows of the table gives is the size of the program.
 
--- sums of counts that stop at 65,537 are equal as far as 65,537
+-- sums of counts that stop at 65,537 are equal as far as 65,537, and at most the sums of the full
+-- counts
 capped_sums :
     (f : row.Instance → ℕ) (g : Instance → ℕ) (rows : List row.Instance) (is : List Instance) →
     length rows ≡ length is →
     ((j : ℕ) (i : row.Instance) (here : Instance) → slice_get rows j ≡ Some i →
     slice_get is j ≡ Some here → f i ≡ min (g here) 65537) →
-    (a : ℕ) → min (a + sum_by f rows) 65537 ≡ min (a + sum_by g is) 65537
-capped_sums f g [] [] long same a = refl
+    (a : ℕ) → (min (a + sum_by f rows) 65537 ≡ min (a + sum_by g is) 65537)
+    × (sum_by f rows ≤ sum_by g is)
+capped_sums f g [] [] long same a = (refl, omega arith)
 capped_sums f g (i ∷ rows) (c ∷ is) long same a =
     let rest = capped_sums f g rows is (omega (arith, long))
-    (λ j l here p q. same (suc j) l here p q) (a + f i) in
-    omega (arith, same 0 i c refl refl, rest, sum_by-cons f i rows, sum_by-cons g c is)
+    (λ j l here p q. same (suc j) l here p q) (a + f i) in (
+      omega (arith, same 0 i c refl refl, rest.0, sum_by-cons f i rows, sum_by-cons g c is),
+      omega (arith, same 0 i c refl refl, rest.1, sum_by-cons f i rows, sum_by-cons g c is),
+    )
 capped_sums f g _ _ long same a = absurd (omega (arith, long))
-
--- a sum of counts that stop at 65,537 is at most the sum of the full counts
-lesser_sums :
-    (f : row.Instance → ℕ) (g : Instance → ℕ) (rows : List row.Instance) (is : List Instance) →
-    length rows ≡ length is →
-    ((j : ℕ) (i : row.Instance) (here : Instance) → slice_get rows j ≡ Some i →
-    slice_get is j ≡ Some here → f i ≡ min (g here) 65537) → sum_by f rows ≤ sum_by g is
-lesser_sums f g [] [] long same = omega arith
-lesser_sums f g (i ∷ rows) (c ∷ is) long same =
-    let rest = lesser_sums f g rows is (omega (arith, long))
-    (λ j l here p q. same (suc j) l here p q) in
-    omega (arith, rest, same 0 i c refl refl, sum_by-cons f i rows, sum_by-cons g c is)
-lesser_sums f g _ _ long same = absurd (omega (arith, long))
 
 small_below : (m n : ℕ) → min m 65537 ≡ min n 65537 → nat_le m 65536 ≡ nat_le n 65536
 small_below m n e = grind (arith, nat_tests)
@@ -147,9 +138,9 @@ module _ (P : Program) where
         nat_le (element_total r t + term_total t sizes) 65536 ≡ is_small P
     counted_small sizes has =
         small_below (element_total r t + term_total t sizes) (size P)
-        (capped_sums (λ (i : row.Instance). sizes i.specialization.0) parts_size
+        ((capped_sums (λ (i : row.Instance). sizes i.specialization.0) parts_size
         t.instances.items (instances P) (rows_many P r t table) (row_size sizes has)
-        (element_total r t)
+        (element_total r t)).0
         ∙ ap (λ n. min n 65537) (ap (λ n. n + sum_by parts_size (instances P)) total_is
         ∙ sym size_parts))
 
@@ -162,8 +153,8 @@ module _ (P : Program) where
         (sizes : ℕ → ℕ) → HasTermSizes P r t sizes →
         element_total r t + term_total t sizes ≤ size P
     counted_within sizes has =
-        let terms = lesser_sums (λ (i : row.Instance). sizes i.specialization.0) parts_size
-        t.instances.items (instances P) (rows_many P r t table) (row_size sizes has) in
+        let terms = (capped_sums (λ (i : row.Instance). sizes i.specialization.0) parts_size
+        t.instances.items (instances P) (rows_many P r t table) (row_size sizes has) 0).1 in
         omega (arith, total_is, size_parts, terms)
 
 -- Whether a program is small, from the found types of its terms.
@@ -267,9 +258,6 @@ module _ (c : Checking) (checked : IsChecked c)
   table : IsTable P r t
   table = checked.elaborated.table
 
-  size_over : 65536 < size P
-  size_over = over_limit (size P) large
-
   -- the sizes lent of specializations are those of their expressions, where there are rows
   sizes_lent :
       (types : Option (Vec NodeTypes Global)) → HasFoundTypes P r t types →
@@ -302,7 +290,7 @@ module _ (c : Checking) (checked : IsChecked c)
       (65536 < next) × (next ≤ size P)
   variables_over m next p e =
       let within = variables_within P r t reached table in
-      let over = size_over in
+      let over = over_limit (size P) large in
       (omega (arith, e), omega (arith, e, within, over, p.no_more))
 
 -- In a program within the limit of size no array in an expression has elements of more scalars than

@@ -1,22 +1,21 @@
 -- The types of the parts of an expression, and the widths of lists and outputs.
 use Rattle.lb_expand.proofs.Words
-use Words.{are_same, heads_same, eqb-true, ltb-true, leb-true, same_Some, UnaryOperator, Not}
-use Words.{Negate, BinaryOperator, Kind, holds, where_true, and_first, and_second, DataType, int}
-use Words.{truth, is_kind, is_type, are_types, same_sizes, product, element_count, is_arithmetic}
-use Words.{is_logical, are_ints, are_truths, unary_type, binary_type, common_type, array_of}
-use Words.{element_with, element_of, index_type, slice_type, join_type, singly, constant_type}
-use Words.{symbol_types, truly, all_some, red_types, zero, None, IfSome, option_map, length, take}
-use Words.{drop, flat_map, cond, subst, arith, range_with_len, mul-le-mul_right, length-take-le}
-use Words.{length-drop, Every, copies, either_or, Name, Declaration, Program, Instance, width}
-use Words.{variable_type, Stream, choice, choices, gathered, last_of, length-both, ◌≡◌, ◌⊎◌, inl}
-use Words.{inr, ℤ, ℕ, suc, ◌+◌, ◌-◌, ◌*◌, ◌<◌, ◌≤◌, Bool, true, false, ◌&&◌, ◌||◌, nat_eq, nat_le}
-use Words.{nat_lt, Option, Some, List, [], ◌∷◌, map, refl, sym, ap, ap₂, ◌∙◌, if◌then◌else◌, find}
-use Words.{length-append, iterator_types, ArrayIterator, Map, Red, Fill}
-use Rattle.{std.proofs.Common.add-mul, lb_static.specs.Arithmetic.{is_int as is_in_range}}
-use Rattle.lb_check.specs.Types.{is_equality, fill_types}
-use Rattle.lb_expand.proofs.numbering.ReceivedInputs.{AreFed}
-pub use Rattle.lb_check.proofs.typing.OperandTypes.{Bound, bound, single, Single, alone, One, one}
-pub use Rattle.lb_check.proofs.typing.OperandTypes.{Two, two, Truths, from_true}
+use Words.{ArrayIterator, BinaryOperator, Bool, DataType, Declaration, Every, Fill, IfSome}
+use Words.{Instance, Kind, List, Map, Name, Negate, None, Not, Option, Program, Red, Some, Stream}
+use Words.{UnaryOperator, [], all_some, and_first, and_second, ap, ap₂, are_ints, are_same}
+use Words.{are_truths, are_types, arith, array_of, choice, choices, common_type, cond}
+use Words.{constant_type, copies, drop, either_or, element_count, element_of, element_with}
+use Words.{eqb-true, false, find, flat_map, gathered, heads_same, holds, if◌then◌else◌, index_type}
+use Words.{inl, inr, int, is_arithmetic, is_kind, is_logical, is_type, iterator_types, join_type}
+use Words.{last_of, leb-true, length, length-append, length-both, length-drop, length-take-le}
+use Words.{ltb-true, map, mul-le-mul_right, nat_eq, nat_le, nat_lt, option_map, product}
+use Words.{range_with_len, red_types, refl, same_Some, same_sizes, singly, slice_type, subst, suc}
+use Words.{sym, symbol_types, take, true, truly, truth, unary_type, variable_type, where_true}
+use Words.{width, zero, ℕ, ℤ, ◌&&◌, ◌*◌, ◌+◌, ◌-◌, ◌<◌, ◌||◌, ◌∙◌, ◌∷◌, ◌≡◌, ◌≤◌, ◌⊎◌}
+use Rattle.{lb_check.specs.Types.fill_types, lb_expand.proofs.numbering.ReceivedInputs.AreFed}
+use Rattle.{lb_static.specs.Arithmetic.is_int as is_in_range, std.proofs.Common.add-mul}
+pub use Rattle.lb_check.proofs.typing.OperandTypes.{Bound, One, Single, Truths, Two, alone, bound}
+pub use Rattle.lb_check.proofs.typing.OperandTypes.{from_true, one, single, two}
 
 -- The types of the parts of an expression, from its own types, and their scalar elements.
 
@@ -75,8 +74,7 @@ is_int : (s : DataType) → is_type s int ≡ true → element_count s ≡ 1
 is_int s e = no_sizes s.sizes (and_second (is_kind s.kind (int).kind) (same_sizes s.sizes []) e)
 
 is_truth : (s : DataType) → is_type s truth ≡ true → element_count s ≡ 1
-is_truth s e =
-    no_sizes s.sizes (and_second (is_kind s.kind (truth).kind) (same_sizes s.sizes []) e)
+is_truth s e = no_sizes s.sizes (and_second (is_kind s.kind (truth).kind) (same_sizes s.sizes []) e)
 
 pub truth_is : (s : DataType) → is_type truth s ≡ true → element_count s ≡ 1
 truth_is s e =
@@ -116,7 +114,7 @@ same_scalars s t r true c p q e =
 same_scalars s t r false c p q e =
     scalars truth s t truth r is_truth refl (ap (λ d. where_true d truth) q ∙ e)
 
-binary_by :
+pub binary_by :
     (s t r : DataType) (a b c : Bool) →
     (if a then where_true (are_ints s t) int else
     if b then where_true (are_truths s t) truth else
@@ -126,11 +124,6 @@ binary_by s t r true b c e = scalars int s t int r is_int refl e
 binary_by s t r false true c e = scalars truth s t truth r is_truth refl e
 binary_by s t r false false true e = same_scalars s t r _ _ refl refl e
 binary_by s t r false false false e = scalars int s t truth r is_int refl e
-
-pub binary_count :
-    (op : BinaryOperator) (s t r : DataType) → binary_type op s t ≡ Some r → Scalars s t r
-binary_count op s t r e =
-    binary_by s t r (is_arithmetic op) (is_logical op) (is_equality op) e
 
 -- ## Types that are the same
 
@@ -354,8 +347,7 @@ pub found_in :
     {A : Type 0} (P : A → Type 0) (test : A → Bool) (xs : List A) → Every P xs →
     IfSome (find test xs) P
 found_in P test [] h = tt
-found_in P test (x ∷ xs) h =
-    chosen_one P (test x) x (find test xs) h.0 (found_in P test xs h.1)
+found_in P test (x ∷ xs) h = chosen_one P (test x) x (find test xs) h.0 (found_in P test xs h.1)
 
 -- `n` joined pieces of `w` items each have `n * w` items
 pub length-range :

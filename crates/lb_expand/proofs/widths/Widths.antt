@@ -1,33 +1,32 @@
 -- An expression has as many streams as its types have elements, and so has every part of it.
 use Rattle.lb_expand.proofs.Words
-use Words.{◌≡◌, ℕ, suc, ◌+◌, ◌-◌, ◌*◌, ◌<◌, ◌≤◌, true, ◌⊎◌, inl, inr, pos, Option, Some, None}
-use Words.{IfSome, option_map, List, [], ◌∷◌, ◌++◌, map, length, take, drop, flat_map, refl, sym}
-use Words.{ap, ap₂, ◌∙◌, arith, list_all, bytes_eq, length-map, same_Some, BinaryOperator}
-use Words.{ArrayIterator, Map, Red, Fill, ◌>>=◌, Every, joined, all_some, either_or, where_true}
-use Words.{listed, Name, Static, Node_named, Symbol, Expr, Literal, Truth, Variable, Group, Unary}
-use Words.{Binary, If, Arrow, Fby, Pre, Current, When, Replicate, Index, Slice, Join, Array}
-use Words.{AtMostOne, Nor, Call, Iterate, Exprs, Nil, Cons, Declaration, Node, and_first}
-use Words.{and_second, heads_same, tails_same, Program, Instance, Child, static_count, call_site}
-use Words.{callee_of, node_named, name_value, DataType, int, truth, variables, width, variable_type}
-use Words.{element_count, product, is_type, are_types, data_types, all_types, only, singly}
-use Words.{list_type, from_one, from_truths, name_data_type, array_of, operator_types}
-use Words.{iterator_types, unary_type, binary_type, common_type, index_type, slice_type, join_type}
-use Words.{constant_type, is_arithmetic, is_logical, Stream, or_fault, Occurrence, call_count}
-use Words.{occurrences, occurrences_in, History, presence, constantly, gathered, last_of, iterated}
-use Words.{symbols, streams, all_streams, number, part_count, outputs_of, data_type, first_of_all}
-use Words.{truly, length-both, call_clocks, occurrences_each, length-append}
-use Words.{declared_clock, right_sides, node_occurrences}
-use Rattle.lb_check.specs.{Clocks.{Clock}, Types.map_types}
-use Rattle.lb_flat.proofs.lists.Lists.{Every-first, Every-second, Every-append}
-use Rattle.lb_expand.proofs.widths.TypeFacts.{One, elements_in, bound, alone, one, two, from_true}
-use Rattle.lb_expand.proofs.widths.TypeFacts.{unary_count, binary_count, alike, array_count}
-use Rattle.lb_expand.proofs.widths.TypeFacts.{indexed, sliced, joined_count, truth_is, same_count}
-use Rattle.lb_expand.proofs.widths.TypeFacts.{Symbolic, constant, symbolic}
-use Rattle.lb_expand.proofs.widths.TypeFacts.{length-copies, length-choices, length-part}
-use Rattle.lb_expand.proofs.widths.TypeFacts.{length-index, found_in, each, arrays_count, width_of}
-use Rattle.lb_expand.proofs.widths.TypeFacts.{outputs_wide, gathered_wide, last_wide, red_of}
-use Rattle.lb_expand.proofs.widths.TypeFacts.{fill_of, fed_by_types}
-pub use Rattle.lb_check.proofs.typing.OperandTypes.{Called, called, Placed, placed}
+use Words.{Array, ArrayIterator, Arrow, AtMostOne, Binary, BinaryOperator, Call, Child, Cons}
+use Words.{Current, DataType, Declaration, Every, Expr, Exprs, Fby, Fill, Group, History, If}
+use Words.{IfSome, Index, Instance, Iterate, Join, List, Literal, Map, Name, Nil, Node, Node_named}
+use Words.{None, Nor, Occurrence, Option, Pre, Program, Red, Replicate, Slice, Some, Static, Stream}
+use Words.{Symbol, Truth, Unary, Variable, When, [], all_some, all_streams, all_types, and_first}
+use Words.{and_second, ap, ap₂, are_types, arith, array_of, binary_type, bytes_eq, call_clocks}
+use Words.{call_count, call_site, callee_of, common_type, constant_type, constantly, data_type}
+use Words.{data_types, declared_clock, drop, either_or, element_count, first_of_all, flat_map}
+use Words.{from_one, from_truths, gathered, heads_same, index_type, inl, inr, int, is_arithmetic}
+use Words.{is_logical, is_type, iterated, iterator_types, join_type, joined, last_of, length}
+use Words.{length-append, length-both, length-map, list_all, list_type, listed, map, name_data_type}
+use Words.{name_value, node_named, number, occurrences, occurrences_each, occurrences_in, only}
+use Words.{operator_types, option_map, or_fault, outputs_of, part_count, pos, presence, product}
+use Words.{refl, same_Some, singly, slice_type, static_count, streams, suc, sym, symbols}
+use Words.{tails_same, take, true, truly, truth, unary_type, variable_type, variables, where_true}
+use Words.{width, ℕ, ◌*◌, ◌++◌, ◌+◌, ◌-◌, ◌<◌, ◌>>=◌, ◌∙◌, ◌∷◌, ◌≡◌, ◌≤◌, ◌⊎◌}
+use Rattle.lb_check.specs.{Clocks.Clock, Types.{is_equality, map_types}}
+use Rattle.lb_expand.proofs.widths.TypeFacts.{One, Symbolic, alike, alone, array_count}
+use Rattle.lb_expand.proofs.widths.TypeFacts.{arrays_count, binary_by, bound, constant, each}
+use Rattle.lb_expand.proofs.widths.TypeFacts.{elements_in, fed_by_types, fill_of, found_in}
+use Rattle.lb_expand.proofs.widths.TypeFacts.{from_true, gathered_wide, indexed, joined_count}
+use Rattle.lb_expand.proofs.widths.TypeFacts.{last_wide, length-choices, length-copies}
+use Rattle.lb_expand.proofs.widths.TypeFacts.{length-index, length-part, one, outputs_wide, red_of}
+use Rattle.lb_expand.proofs.widths.TypeFacts.{same_count, sliced, symbolic, truth_is, two}
+use Rattle.lb_expand.proofs.widths.TypeFacts.{unary_count, width_of}
+use Rattle.lb_flat.proofs.lists.Lists.{Every-append, Every-first, Every-second}
+pub use Rattle.lb_check.proofs.typing.OperandTypes.{Called, Placed, called, placed}
 
 -- An expression has as many streams as its types have scalar elements.
 
@@ -99,8 +98,7 @@ module _ (P : Program) (H : History) (here : Instance) where
       length (either_or (option_map (λ d. H.columns here.path d.name) o)
       (constantly (or_fault (name_value P here x)) (presence H here.path k) ∷ []))
       ≡ elements_in ts
-  names_wide all k x None w ts e =
-      sym (ap elements_in (constant (name_value P here x) ts e).all)
+  names_wide all k x None w ts e = sym (ap elements_in (constant (name_value P here x) ts e).all)
   names_wide all k x (Some d) w ts e =
       let a = alone (variable_type P here d) ts e in
       let known : width P here d ≡ element_count a.data_type = width_of P here d a.data_type a.is in
@@ -111,8 +109,7 @@ module _ (P : Program) (H : History) (here : Instance) where
   type_is : (e : Expr) (t : DataType) → data_types P here e ≡ Some (t ∷ []) → data_type P here e ≡ t
   type_is e t h = ap (λ o. either_or (o >>= only) int) h
 
-  sizes_product :
-      (t : DataType) (ns : List ℕ) → t.sizes ≡ ns → element_count t ≡ product ns
+  sizes_product : (t : DataType) (ns : List ℕ) → t.sizes ≡ ns → element_count t ≡ product ns
   sizes_product t ns e = ap product e
 
   pub number_is : (s : Static) (n : ℕ) → static_count P here s ≡ Some n → number P here s ≡ n
@@ -317,8 +314,7 @@ module _ (P : Program) (H : History) (here : Instance) where
           (k : Clock) (n : ℕ) (e : Expr) (ts : List DataType) → data_types P here e ≡ Some ts →
           AllWide (occurrences P here.node k n e) →
           length (streams P H here k n e) ≡ elements_in ts
-      wide k n (Literal m) ts e w =
-          sym (ap elements_in (constant (Some (pos m)) ts e).all)
+      wide k n (Literal m) ts e w = sym (ap elements_in (constant (Some (pos m)) ts e).all)
       wide k n (Truth b) ts e w = ap elements_in (same_Some _ _ e)
       wide k n (Variable x) ts e w =
           names_wide variables_wide k x _
@@ -333,7 +329,8 @@ module _ (P : Program) (H : History) (here : Instance) where
       wide k n (Binary op a b) ts e w =
           let m = n + call_count a in
           let i = two (data_types P here a) (data_types P here b) (binary_type op) ts e in
-          let s = binary_count op i.first i.second i.result i.gives in
+          let s = binary_by i.first i.second i.result (is_arithmetic op) (is_logical op)
+          (is_equality op) i.gives in
           just_one _ i.result ts
           (length-both _ 1 (streams P H here k n a) (streams P H here k m b)
           (only_one _ i.first (wide k n a _ i.is_first (fore _ _ w.1)) ∙ s.first)
@@ -532,16 +529,12 @@ module _ (P : Program) (here : Node) (Q : Occurrence → Type 0) where
     nested_each (k ∷ ks) n (Cons e es) h = two_nested _ _ (nested k n e) (nested_each ks _ es) h
 
   -- and so it is for the occurrences of several expressions
-  nested_all :
+  pub nested_all :
       (rs : List Occurrence) →
       AllHave (flat_map (λ r. occurrences P here r.clock r.calls_before r.expr) rs) →
       AllPartsHave (flat_map (λ r. occurrences P here r.clock r.calls_before r.expr) rs)
   nested_all [] h = tt
   nested_all (r ∷ rs) h = two_nested _ _ (nested r.clock r.calls_before r.expr) (nested_all rs) h
-
-  -- what holds of all occurrences of a node holds of all parts of each of them
-  pub nested_node : AllHave (node_occurrences P here) → AllPartsHave (node_occurrences P here)
-  nested_node h = nested_all (right_sides P here 0 here.body) h
 
 -- an occurrence has types, and what is called in it is as wide as its types
 pub record IsTypedAt (P : Program) (H : History) (here : Instance) (o : Occurrence) : Type 0 where

@@ -1,9 +1,8 @@
 -- A clock that samples a variable is found by the number of the variable and by its sign.
-use Rattle.lb_expand.proofs.Words.{◌≡◌, ℕ, ◌+◌, ◌*◌, Some, Option, List, Bool, true, false, arith}
-use Rattle.lb_expand.proofs.Words.{ap, refl, ClockId, VariableId}
-use Rattle.lb_expand.specs.TableClocks.{clock_id, variable_number}
-use Rattle.lb_check.specs.declared.own_clock.Clock.{Clock}
-use Rattle.lb_check.specs.declared.own_clock.Clock.TheVariants.{On}
+use Rattle.lb_check.specs.declared.own_clock.Clock.{Clock, TheVariants.On}
+use Rattle.lb_expand.proofs.Words.{Bool, ClockId, List, Option, Some, VariableId, ap, arith, false}
+use Rattle.lb_expand.{proofs.Words.{refl, true, ℕ, ◌*◌, ◌+◌, ◌≡◌}, specs.TableClocks.clock_id}
+use Rattle.lb_expand.specs.TableClocks.{variable_number}
 use Rattle.lb_expand.proofs.clocks.clock_id.Goals as goal
 
 abbrev found_at : ℕ → Option ClockId

@@ -1,13 +1,17 @@
 -- The row, its specialization, and the call of the node, one after the other.
-use Rattle.std.proofs.Common.{Bor}
-use Rattle.lb_expand.proofs.Words.{◌≡◌, ℕ, List, Some, None, refl, ap, sym, ◌∙◌, option_map}
-use Rattle.lb_expand.proofs.Words.{slice_get, listed, Table, Specialization}
-use Rattle.lb_check.specs.declared.found_clocks.CallClock.{CallClock}
-use Rattle.lb_check.specs.declared.found_clocks.NodeClocks.{NodeClocks}
-use Rattle.lb_static.proofs.Lookups.{held, past, looked_up}
+use Rattle.lb_check.specs.declared.found_clocks.{CallClock.CallClock, NodeClocks.NodeClocks}
+use Rattle.lb_expand.proofs.Words.{List, None, Some, Specialization, Table, ap, listed, option_map}
+use Rattle.lb_expand.proofs.Words.{refl, slice_get, sym, ℕ, ◌∙◌, ◌≡◌}
+use Rattle.{lb_expand.specs.TableClocks.found_call, lb_static.proofs.Lookups.{held, looked_up}}
+use Rattle.{lb_static.proofs.Lookups.past, std.proofs.Common.Bor}
 use Rattle.lb_static.specs.declared.table.Instance as row
-use Rattle.lb_expand.specs.TableClocks.{found_call}
 use Rattle.lb_expand.proofs.clocks.found_call.Goals as goal
+
+abbrev rows : Table → List row.Instance
+rows t = t.instances.items
+
+abbrev specializations : Table → List Specialization
+specializations t = t.specializations.items
 
 module _ (t : Table) (found : List NodeClocks) (j n : ℕ) where
   no_row : slice_get t.instances.items j ≡ None → found_call t found j n ≡ None
@@ -28,43 +32,34 @@ module _ (t : Table) (found : List NodeClocks) (j n : ℕ) where
 pub returns-in_err-row : goal.returns-in_err-row
 returns-in_err-row c =
     let x = c.args.checked.now in
-    let t = x.elab.table in
     let same = c.table-table.ensures.value ∙ ap (λ e. e.table) c.elab.ensures.value in
     ap (option_map (λ (m : Bor CallClock). m.now)) c.from_residual.ensures
-    ∙ sym (no_row t x.clocks.items c.args.row.0 c.args.call.0
-    (past c.deref.result.now t.instances.items c.args.row.0
-    (c.deref.ensures.value ∙ ap (λ (t : Table). t.instances.items) same)
+    ∙ sym (no_row x.elab.table x.clocks.items c.args.row.0 c.args.call.0
+    (past c.deref.result.now _ _ (c.deref.ensures.value ∙ ap rows same)
     c.in_err-row.ensures.lookup.3))
 
 pub returns-in_err-specialization : goal.returns-in_err-specialization
 returns-in_err-specialization c =
     let x = c.args.checked.now in
-    let t = x.elab.table in
-    let i = c.in_ok-row.row.now in
     let same = c.table-table.ensures.value ∙ ap (λ e. e.table) c.elab.ensures.value in
+    let is = c.in_ok-row.ensures.lookup in
     ap (option_map (λ (m : Bor CallClock). m.now)) c.from_residual-in_err-specialization.ensures
-    ∙ sym (no_node t x.clocks.items c.args.row.0 c.args.call.0 i
-    (held c.deref.result.now t.instances.items c.args.row.0 i
-    (c.deref.ensures.value ∙ ap (λ (t : Table). t.instances.items) same)
-    c.in_ok-row.ensures.lookup.3.0 c.in_ok-row.ensures.lookup.1)
-    (past c.deref-2.result.now t.specializations.items i.specialization.0
-    (c.deref-2.ensures.value ∙ ap (λ (t : Table). t.specializations.items) same)
+    ∙ sym (no_node x.elab.table x.clocks.items c.args.row.0 c.args.call.0 c.in_ok-row.row.now
+    (held c.deref.result.now _ _ _ (c.deref.ensures.value ∙ ap rows same) is.3.0 is.1)
+    (past c.deref-2.result.now _ _ (c.deref-2.ensures.value ∙ ap specializations same)
     c.in_err-specialization.ensures.lookup.3))
 
 pub returns : goal.returns
 returns c =
     let x = c.args.checked.now in
-    let t = x.elab.table in
-    let i = c.in_ok-row.row.now in
     let s = c.in_ok-specialization.specialization.now in
     let same = c.table-table.ensures.value ∙ ap (λ e. e.table) c.elab.ensures.value in
+    let is = c.in_ok-row.ensures.lookup in
+    let of_row = c.in_ok-specialization.ensures.lookup in
     let calls = listed (λ (f : NodeClocks). f.calls.items) (slice_get x.clocks.items s.node.0) in
     looked_up c.get-3.result c.call_clocks.result.now calls c.args.call.0
     c.call_clocks.ensures.value c.get-3.ensures.lookup.3
-    ∙ sym (call_of t x.clocks.items c.args.row.0 c.args.call.0 i s
-    (held c.deref.result.now t.instances.items c.args.row.0 i
-    (c.deref.ensures.value ∙ ap (λ (t : Table). t.instances.items) same)
-    c.in_ok-row.ensures.lookup.3.0 c.in_ok-row.ensures.lookup.1)
-    (held c.deref-2.result.now t.specializations.items i.specialization.0 s
-    (c.deref-2.ensures.value ∙ ap (λ (t : Table). t.specializations.items) same)
-    c.in_ok-specialization.ensures.lookup.3.0 c.in_ok-specialization.ensures.lookup.1))
+    ∙ sym (call_of x.elab.table x.clocks.items c.args.row.0 c.args.call.0 c.in_ok-row.row.now s
+    (held c.deref.result.now _ _ _ (c.deref.ensures.value ∙ ap rows same) is.3.0 is.1)
+    (held c.deref-2.result.now _ _ _ (c.deref-2.ensures.value ∙ ap specializations same)
+    of_row.3.0 of_row.1))

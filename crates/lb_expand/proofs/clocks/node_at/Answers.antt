@@ -1,8 +1,7 @@
 -- The specialization of the row, and then its node.
-use Rattle.std.proofs.Common.{Bor}
-use Rattle.lb_expand.proofs.Words.{ap, sym, ◌∙◌, option_map, slice_get, ◌>>=◌, Specialization}
-use Rattle.lb_static.proofs.Lookups.{held, past, looked_up}
-use Rattle.lb_static.specs.declared.resolved.ResolvedNode.{ResolvedNode}
+use Rattle.lb_expand.proofs.Words.{Specialization, ap, option_map, slice_get, sym, ◌>>=◌, ◌∙◌}
+use Rattle.lb_static.proofs.Lookups.{held, looked_up, past}
+use Rattle.{lb_static.specs.declared.resolved.ResolvedNode.ResolvedNode, std.proofs.Common.Bor}
 use Rattle.lb_expand.proofs.clocks.node_at.Goals as goal
 
 pub returns-in_err-specialization : goal.returns-in_err-specialization

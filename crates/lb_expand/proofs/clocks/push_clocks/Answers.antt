@@ -1,8 +1,7 @@
 -- Each pass adds the clocks of one variable.
-use Rattle.lb_expand.proofs.Words.{◌++◌, get_or, ap, ap₂, ◌∙◌, clock_id, no_element}
-use Rattle.lb_expand.proofs.Words.{variable_clocks}
+use Rattle.lb_expand.proofs.Words.{ap, ap₂, clock_id, get_or, no_element, variable_clocks, ◌++◌}
+use Rattle.lb_expand.proofs.{Words.◌∙◌, clock_tables.AddedClocks.items_added}
 use Rattle.lb_expand.specs.TableClocks.{signed_clocks}
-use Rattle.lb_expand.proofs.clock_tables.AddedClocks.{items_added}
 use Rattle.lb_expand.proofs.clocks.push_clocks.Goals as goal
 
 pub loop-x-preserved : goal.loop-x-preserved

@@ -1,7 +1,6 @@
 -- Each pass adds the clocks of one row.
-use Rattle.lb_expand.proofs.Words.{◌++◌, ◌<◌, length, ap, ◌∙◌, arith, listed, node_clocks}
-use Rattle.lb_expand.specs.TableClocks.{row_clocks}
-use Rattle.lb_expand.proofs.clock_tables.AddedClocks.{next_added}
+use Rattle.lb_expand.proofs.Words.{ap, arith, length, listed, node_clocks, ◌++◌, ◌<◌, ◌∙◌}
+use Rattle.lb_expand.{proofs.clock_tables.AddedClocks.next_added, specs.TableClocks.row_clocks}
 use Rattle.lb_static.specs.declared.table.Instance as row
 use Rattle.lb_expand.proofs.clocks.table_clocks.Goals as goal
 

@@ -1,5 +1,4 @@
-use Rattle.lb_expand.proofs.Words.{◌≡◌, take}
-use Rattle.lb_expand.specs.TableClocks.{table_clocks}
+use Rattle.lb_expand.{proofs.Words.{take, ◌≡◌}, specs.TableClocks.table_clocks}
 use Rattle.lb_expand.proofs.clocks.table_clocks.Given as goal
 
 abbrev pub invariant-loop-row : goal.invariant-loop-row

@@ -1,6 +1,5 @@
 -- The sizes that are read give the width of the variable.
-use Rattle.lb_expand.proofs.Words.{ap, ◌∙◌, times_sizes}
-use Rattle.lb_expand.proofs.numbering.StoredLayouts.{capped}
+use Rattle.lb_expand.proofs.{Words.{ap, times_sizes, ◌∙◌}, numbering.StoredLayouts.capped}
 use Rattle.lb_expand.proofs.layout.width.Goals as goal
 
 pub returns : goal.returns

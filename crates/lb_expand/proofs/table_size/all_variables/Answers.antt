@@ -1,7 +1,6 @@
 -- The variables of all rows are counted row by row.
-use Rattle.lb_expand.proofs.Words.{◌∙◌, List, ap, flat_map, subst, sym, sum_of, widths_in, Counts}
-use Rattle.lb_expand.proofs.numbering.StoredLayouts.{sum_pieces}
-use Rattle.lb_expand.proofs.widths.TableSizes.{all_counted}
+use Rattle.lb_expand.proofs.Words.{Counts, List, ap, flat_map, subst, sum_of, sym, widths_in, ◌∙◌}
+use Rattle.lb_expand.proofs.{numbering.StoredLayouts.sum_pieces, widths.TableSizes.all_counted}
 use Rattle.lb_static.specs.declared.table.Instance as row
 use Rattle.lb_expand.proofs.table_size.all_variables.Goals as goal
 

@@ -1,6 +1,5 @@
 -- Each pass subtracts the size of one row; the program is small exactly where something is left.
-use Rattle.lb_expand.proofs.Words.{ap, ◌∙◌, lent_size}
-use Rattle.lb_expand.proofs.widths.TableSizes.{left_small, less_left}
+use Rattle.lb_expand.proofs.{Words.{ap, lent_size, ◌∙◌}, widths.TableSizes.{left_small, less_left}}
 use Rattle.lb_static.specs.declared.table.Instance as row
 use Rattle.lb_expand.proofs.table_size.is_small.Goals as goal
 

@@ -1,6 +1,5 @@
 -- Each pass adds the kind of one equation.
-use Rattle.lb_expand.proofs.Words.{refl}
-use Rattle.lb_expand.proofs.fits.KindFacts.{kind_next}
+use Rattle.lb_expand.proofs.{Words.refl, fits.KindFacts.kind_next}
 use Rattle.lb_expand.proofs.temporary_kinds.temporary_kinds.Goals as goal
 
 pub loop-equation-preserved : goal.loop-equation-preserved

@@ -1,5 +1,4 @@
-use Rattle.lb_expand.proofs.Words.{take}
-use Rattle.lb_expand.proofs.numbering.RowChildren.{HasCalls}
+use Rattle.lb_expand.proofs.{Words.take, numbering.RowChildren.HasCalls}
 use Rattle.lb_expand.proofs.children.Children.new.Given as goal
 
 abbrev pub invariant-loop-row : goal.invariant-loop-row

@@ -1,7 +1,6 @@
 -- The clocks that are filled are the table of clocks of the program, and in range.
-use Rattle.lb_expand.proofs.Words.{◌≡◌, sym, subst, rules, sources_of, all_clocks, all_runs}
-use Rattle.lb_expand.proofs.Words.{AreClocks}
-use Rattle.lb_expand.proofs.clock_tables.ClockEntries.{filled_within}
+use Rattle.lb_expand.proofs.Words.{AreClocks, all_clocks, all_runs, rules, sources_of, subst, sym}
+use Rattle.lb_expand.proofs.{Words.◌≡◌, clock_tables.ClockEntries.filled_within}
 use Rattle.lb_expand.proofs.frames.FramedRows.{clocks_filled}
 use Rattle.lb_expand.proofs.clocks.Clocks.new.Goals as goal
 

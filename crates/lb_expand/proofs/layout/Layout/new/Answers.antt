@@ -29,8 +29,7 @@ pub loop-row-preserved : goal.loop-row-preserved
 loop-row-preserved c =
     let l = c.loop-row in
     let f = widths_in c.args.reached.now c.args.table.now in
-    let long : c.len.result ≡ length c.add_row.new.starts.items =
-    omega (arith, c.len.ensures) in
+    let long : c.len.result ≡ length c.add_row.new.starts.items = omega (arith, c.len.ensures) in
     row_stored f c.deref-row-items.result.now l.row-index _ l.variables.items l.starts.items
     c.add_row.new.starts.items c.push-in-loop-row.new.self.items l.count c.in_ok-count.count
     c.loop-row-test.true l.invariant c.in_ok-count.ensures.added

@@ -1,5 +1,4 @@
-use Rattle.lb_expand.proofs.Words.{take, widths_in}
-use Rattle.lb_expand.proofs.numbering.StoredLayouts.{IsStored}
+use Rattle.lb_expand.proofs.{Words.{take, widths_in}, numbering.StoredLayouts.IsStored}
 use Rattle.lb_expand.proofs.layout.Layout.new.Given as goal
 
 abbrev pub invariant-loop-row : goal.invariant-loop-row

@@ -1,11 +1,19 @@
 -- The row, its specialization, and its node, one after the other.
-use Rattle.lb_expand.proofs.Words.{◌≡◌, ℕ, Some, None, refl, ap, ◌∙◌, slice_get, Table}
-use Rattle.lb_expand.proofs.Words.{Specialization, Reached, ResolvedNode, sym, ◌>>=◌}
-use Rattle.lb_check.specs.declared.checked.Checking.{Checking}
-use Rattle.lb_static.proofs.Lookups.{held, past}
+use Rattle.{lb_check.specs.declared.checked.Checking.Checking, lb_expand.proofs.Words.{List, None}}
+use Rattle.lb_expand.proofs.Words.{Reached, ResolvedNode, Some, Specialization, Table, ap, refl}
+use Rattle.lb_expand.{proofs.Words.{slice_get, sym, ℕ, ◌>>=◌, ◌∙◌, ◌≡◌}, specs.RowFrames.found_row}
+use Rattle.{lb_expand.specs.RowFrames.found_types, lb_static.proofs.Lookups.{held, past}}
 use Rattle.lb_static.specs.declared.table.Instance as row
-use Rattle.lb_expand.specs.RowFrames.{found_row, found_types}
 use Rattle.lb_expand.proofs.row_frame.RowFrame.new.Goals as goal
+
+abbrev rows : Table → List row.Instance
+rows t = t.instances.items
+
+abbrev specializations : Table → List Specialization
+specializations t = t.specializations.items
+
+abbrev nodes : Reached → List ResolvedNode
+nodes r = r.nodes.items
 
 module _ (x : Checking) (j : ℕ) where
   no_row : slice_get x.elab.table.instances.items j ≡ None → found_row x j ≡ None
@@ -38,62 +46,47 @@ module _ (x : Checking) (j : ℕ) where
 
 pub returns-in_err-instance : goal.returns-in_err-instance
 returns-in_err-instance c =
-    let x = c.args.checked.now in
-    let t = x.elab.table in
     let same = c.table-table.ensures.value ∙ ap (λ e. e.table) c.elab-2.ensures.value in
-    rw c.from_residual.ensures
-    (no_row x c.args.row.0
-    (past c.deref.result.now t.instances.items c.args.row.0
-    (c.deref.ensures.value ∙ ap (λ (t : Table). t.instances.items) same)
+    rw c.from_residual.ensures (no_row c.args.checked.now c.args.row.0
+    (past c.deref.result.now _ _ (c.deref.ensures.value ∙ ap rows same)
     c.in_err-instance.ensures.lookup.3))
 
 pub returns-in_err-specialization : goal.returns-in_err-specialization
 returns-in_err-specialization c =
-    let x = c.args.checked.now in
-    let t = x.elab.table in
-    let i = c.in_ok-instance.instance.now in
     let same = c.table-table.ensures.value ∙ ap (λ e. e.table) c.elab-2.ensures.value in
+    let is = c.in_ok-instance.ensures.lookup in
     rw c.from_residual-in_err-specialization.ensures
-    (no_specialization x c.args.row.0 i
-    (held c.deref.result.now t.instances.items c.args.row.0 i
-    (c.deref.ensures.value ∙ ap (λ (t : Table). t.instances.items) same)
-    c.in_ok-instance.ensures.lookup.3.0 c.in_ok-instance.ensures.lookup.1)
-    (past c.deref-2.result.now t.specializations.items i.specialization.0
-    (c.deref-2.ensures.value ∙ ap (λ (t : Table). t.specializations.items) same)
+    (no_specialization c.args.checked.now c.args.row.0 c.in_ok-instance.instance.now
+    (held c.deref.result.now _ _ _ (c.deref.ensures.value ∙ ap rows same) is.3.0 is.1)
+    (past c.deref-2.result.now _ _ (c.deref-2.ensures.value ∙ ap specializations same)
     c.in_err-specialization.ensures.lookup.3))
 
 pub returns-in_err-node : goal.returns-in_err-node
 returns-in_err-node c =
-    let x = c.args.checked.now in
-    let t = x.elab.table in
-    let i = c.in_ok-instance.instance.now in
-    let s = c.in_ok-specialization.specialization.now in
     let same = c.table-table.ensures.value ∙ ap (λ e. e.table) c.elab-2.ensures.value in
     let reached = c.reached-reached.ensures.value ∙ ap (λ e. e.reached) c.elab.ensures.value in
+    let is = c.in_ok-instance.ensures.lookup in
+    let of_row = c.in_ok-specialization.ensures.lookup in
     rw c.from_residual-in_err-node.ensures
-    (no_node x c.args.row.0 i s
-    (held c.deref.result.now t.instances.items c.args.row.0 i
-    (c.deref.ensures.value ∙ ap (λ (t : Table). t.instances.items) same)
-    c.in_ok-instance.ensures.lookup.3.0 c.in_ok-instance.ensures.lookup.1)
-    (held c.deref-2.result.now t.specializations.items i.specialization.0 s
-    (c.deref-2.ensures.value ∙ ap (λ (t : Table). t.specializations.items) same)
-    c.in_ok-specialization.ensures.lookup.3.0 c.in_ok-specialization.ensures.lookup.1)
-    (past c.deref-3.result.now x.elab.reached.nodes.items s.node.0
-    (c.deref-3.ensures.value ∙ ap (λ (r : Reached). r.nodes.items) reached)
+    (no_node c.args.checked.now c.args.row.0 c.in_ok-instance.instance.now
+    c.in_ok-specialization.specialization.now
+    (held c.deref.result.now _ _ _ (c.deref.ensures.value ∙ ap rows same) is.3.0 is.1)
+    (held c.deref-2.result.now _ _ _ (c.deref-2.ensures.value ∙ ap specializations same)
+    of_row.3.0 of_row.1)
+    (past c.deref-3.result.now _ _ (c.deref-3.ensures.value ∙ ap nodes reached)
     c.in_err-node.ensures.lookup.3))
 
 pub returns : goal.returns
 returns c =
     let x = c.args.checked.now in
-    let t = x.elab.table in
     let i = c.in_ok-instance.instance.now in
-    let s = c.in_ok-specialization.specialization.now in
-    let n = c.in_ok-node.node.now in
     let same = c.table-table.ensures.value ∙ ap (λ e. e.table) c.elab-2.ensures.value in
     let reached = c.reached-reached.ensures.value ∙ ap (λ e. e.reached) c.elab.ensures.value in
-    let is = held c.deref.result.now t.instances.items c.args.row.0 i
-    (c.deref.ensures.value ∙ ap (λ (t : Table). t.instances.items) same)
-    c.in_ok-instance.ensures.lookup.3.0 c.in_ok-instance.ensures.lookup.1 in
+    let at = c.in_ok-instance.ensures.lookup in
+    let of_row = c.in_ok-specialization.ensures.lookup in
+    let of_node = c.in_ok-node.ensures.lookup in
+    let is = held c.deref.result.now (rows x.elab.table) c.args.row.0 i
+    (c.deref.ensures.value ∙ ap rows same) at.3.0 at.1 in
     record {
       checked = refl;
       layout = refl;
@@ -101,13 +94,12 @@ returns c =
       clocks = refl;
       row = refl;
       found =
-          row_at x c.args.row.0 i s n is
-          (held c.deref-2.result.now t.specializations.items i.specialization.0 s
-          (c.deref-2.ensures.value ∙ ap (λ (t : Table). t.specializations.items) same)
-          c.in_ok-specialization.ensures.lookup.3.0 c.in_ok-specialization.ensures.lookup.1)
-          (held c.deref-3.result.now x.elab.reached.nodes.items s.node.0 n
-          (c.deref-3.ensures.value ∙ ap (λ (r : Reached). r.nodes.items) reached)
-          c.in_ok-node.ensures.lookup.3.0 c.in_ok-node.ensures.lookup.1);
+          row_at x c.args.row.0 i c.in_ok-specialization.specialization.now
+          c.in_ok-node.node.now is
+          (held c.deref-2.result.now _ _ _ (c.deref-2.ensures.value ∙ ap specializations same)
+          of_row.3.0 of_row.1)
+          (held c.deref-3.result.now _ _ _ (c.deref-3.ensures.value ∙ ap nodes reached)
+          of_node.3.0 of_node.1);
       terms = c.term_clocks.ensures.value;
       types = c.term_types.ensures.value ∙ sym (types_at x c.args.row.0 i is);
     }

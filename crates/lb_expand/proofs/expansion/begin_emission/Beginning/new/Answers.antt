@@ -1,8 +1,7 @@
-use Rattle.lb_expand.proofs.Words.{◌<◌, ◌∙◌, All, Option, Vec, Global, ap, sym, subst, subst₂}
-use Rattle.lb_expand.proofs.Words.{ForSome, Start, HasRows, IsReady, State, Clock, ElementId}
-use Rattle.lb_expand.proofs.Words.{IsWithin}
+use Rattle.lb_expand.proofs.Words.{All, Clock, ElementId, ForSome, Global, HasRows, IsReady}
+use Rattle.lb_expand.proofs.Words.{IsWithin, Option, Start, State, Vec, ap, subst, subst₂, sym, ◌<◌}
+use Rattle.lb_expand.proofs.{Words.◌∙◌, emission.EmittedProgram.watched_ready}
 use Rattle.lb_flat.specs.declared.equation.Equation.{Equation}
-use Rattle.lb_expand.proofs.emission.EmittedProgram.{watched_ready}
 use Rattle.lb_expand.proofs.expansion.begin_emission.Beginning.new.Goals as goal
 
 pub property-requires-clause-ready : goal.property-requires-clause-ready

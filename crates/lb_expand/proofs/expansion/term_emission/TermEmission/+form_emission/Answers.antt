@@ -1,27 +1,24 @@
 use Rattle.lb_expand.proofs.Words
-use Words.{◌≡◌, ◌<◌, ◌≤◌, ◌+◌, ◌*◌, length, arith, Vec, Global, refl, sym, ap}
-use Words.{subst, ◌∙◌, drop_all, PlacedEmitted, next_term, row_place, emit_term, place_of, HasRoom}
-use Words.{numbers_of, state_of, emitted_of, clock_of, Clock, constant, placed}
+use Words.{Clock, Global, HasRoom, PlacedEmitted, Vec, ap, arith, clock_of, constant, drop_all}
+use Words.{emit_term, emitted_of, length, next_term, numbers_of, place_of, placed, refl, row_place}
+use Words.{state_of, subst, sym, ◌*◌, ◌+◌, ◌<◌, ◌∙◌, ◌≡◌, ◌≤◌}
+use Rattle.lb_expand.proofs.emission.{EmittedRooms.same_clock, EmittedStacks.numbers_many}
+use Rattle.lb_expand.proofs.emission.EmittedStatements.{first_part, if_done, moved_room, pair_done}
+use Rattle.lb_expand.proofs.emission.EmittedStatements.{same_list, same_room, second_part}
+use Rattle.lb_expand.proofs.emission.EmittedStatements.{start_fits, then_left, three_left}
+use Rattle.lb_expand.proofs.emission.EmittedWalks.{first_room, group_is, leaf_fits, left_above}
+use Rattle.lb_expand.proofs.emission.EmittedWalks.{left_next, left_size, list_later, list_left}
+use Rattle.lb_expand.proofs.emission.EmittedWalks.{listed_none, listed_onto, listed_room}
+use Rattle.lb_expand.proofs.emission.EmittedWalks.{listed_step, literal_is, pair_room, pair_word}
+use Rattle.lb_expand.proofs.emission.EmittedWalks.{places_before, row_done, row_room, row_word}
+use Rattle.lb_expand.proofs.emission.EmittedWalks.{second_room, single_done, single_room}
+use Rattle.lb_expand.proofs.emission.EmittedWalks.{single_word, term_left, third_room, truth_is}
+use Rattle.lb_expand.proofs.emission.EmittedWalks.{value_is, value_room, variable_done, variable_is}
+use Rattle.lb_expand.proofs.emission.TermSizes.{group_smaller, if_smaller, pair_smaller}
+use Rattle.lb_expand.proofs.emission.{TermSizes.{row_smaller, single_smaller}, TermSteps.Grows}
+use Rattle.lb_expand.proofs.emission.TermSteps.{grows, list_step, next_grows}
+use Rattle.lb_static.proofs.resolved.Term.TheLaws.{the_size}
 use denote.Param.Weighed.{at_most, most}
-use Rattle.{lb_static.proofs.resolved.Term.TheLaws.the_size}
-use Rattle.lb_expand.proofs.emission.EmittedRooms.{same_clock}
-use Rattle.lb_expand.proofs.emission.EmittedStacks.{numbers_many}
-use Rattle.lb_expand.proofs.emission.EmittedStatements.{start_fits, list_start, same_room}
-use Rattle.lb_expand.proofs.emission.EmittedStatements.{same_list, moved_room, then_left}
-use Rattle.lb_expand.proofs.emission.EmittedStatements.{first_part, second_part, pair_done}
-use Rattle.lb_expand.proofs.emission.EmittedStatements.{if_done, three_left}
-use Rattle.lb_expand.proofs.emission.EmittedWalks.{literal_is, truth_is, variable_is, value_is}
-use Rattle.lb_expand.proofs.emission.EmittedWalks.{group_is, leaf_fits, value_room}
-use Rattle.lb_expand.proofs.emission.EmittedWalks.{variable_done, single_room, single_word}
-use Rattle.lb_expand.proofs.emission.EmittedWalks.{single_done, pair_room, pair_word, row_room}
-use Rattle.lb_expand.proofs.emission.EmittedWalks.{row_word, row_done, first_room, second_room}
-use Rattle.lb_expand.proofs.emission.EmittedWalks.{third_room, term_left, list_left, left_next}
-use Rattle.lb_expand.proofs.emission.EmittedWalks.{left_size, left_above, listed_room, listed_onto}
-use Rattle.lb_expand.proofs.emission.EmittedWalks.{listed_step, listed_none}
-use Rattle.lb_expand.proofs.emission.TermSizes.{group_smaller, single_smaller, first_smaller}
-use Rattle.lb_expand.proofs.emission.TermSizes.{second_smaller, condition_smaller, then_smaller}
-use Rattle.lb_expand.proofs.emission.TermSizes.{else_smaller, row_smaller}
-use Rattle.lb_expand.proofs.emission.TermSteps.{next_grows, list_grows}
 use Rattle.lb_expand.proofs.expansion.term_emission.TermEmission.+form_emission.Goals as goal
 
 -- ## Terms without parts
@@ -146,7 +143,7 @@ emit-emit-requires-in-Binary g t c =
     let room = same_room _ _ c.next_term-in-Binary.ensures c.deref-in-Binary.ensures
     (pair_room _ _ _ c.in-Binary.is c.requires.room).0 in
     let same = ap the_size c.deref-in-Binary.ensures in
-    let less = first_smaller c.in-Binary.is in
+    let less = (pair_smaller c.in-Binary.is).0 in
     λ κs h. (omega (arith, same, less, c.decreases), (h, (c.requires.clocks, (c.requires.variables, room))))
 
 pub emit-emit-requires-in-Binary-2 : goal.emit-emit-requires-in-Binary-2
@@ -164,7 +161,7 @@ emit-emit-requires-in-Binary-2 g t c =
     let room = same_room _ _ refl c.deref-in-Binary-2.ensures
     (moved_room _ _ left (pair_room _ _ _ c.in-Binary.is c.requires.room).1) in
     let same = ap the_size c.deref-in-Binary-2.ensures in
-    let less = second_smaller c.in-Binary.is in
+    let less = (pair_smaller c.in-Binary.is).1 in
     λ κs h. (omega (arith, same, less, c.decreases), (h, (clocks, (variables, room))))
 
 pub emit-with_two-requires-clause-from : goal.emit-with_two-requires-clause-from
@@ -206,7 +203,7 @@ emit-returns-in_ok-with_two-in-Binary-clause-emitted g t c =
 
 pub emit-row_place-requires : goal.emit-row_place-requires
 emit-row_place-requires g t c =
-    list_start _ _ _ _ (row_room _ _ _ _ c.in-Array.is c.requires.room)
+    places_before _ _ (list_later _ _ _ _) (row_room _ _ _ _ c.in-Array.is c.requires.room).places
 
 pub emit-emit_all-requires : goal.emit-emit_all-requires
 emit-emit_all-requires g t c =
@@ -229,7 +226,7 @@ emit-with_all-requires-clause-variables g t c =
     let s = state_of c.args.self.now in
     let left = list_left ctx s _ c.row_place.ensures c.deref-in-Array.ensures.value
     c.in_ok-to-in-Array.ensures.emitted in
-    let grows = list_grows ctx (row_place at c.args.term.now) s c.in-Array.terms.items in
+    let grows = list_step Grows grows ctx (row_place at c.args.term.now) s c.in-Array.terms.items in
     omega (arith, left_next left, grows, c.requires.variables)
 
 pub emit-with_all-requires-clause-room : goal.emit-with_all-requires-clause-room
@@ -258,7 +255,7 @@ emit-emit-requires-in-If g t c =
     let room = same_room _ _ c.next_term-in-If.ensures c.deref-in-If.ensures
     (first_room _ _ _ c.in-If.is c.requires.room) in
     let same = ap the_size c.deref-in-If.ensures in
-    let less = condition_smaller c.in-If.is in
+    let less = (if_smaller c.in-If.is).0 in
     λ κs h. (omega (arith, same, less, c.decreases), (h, (c.requires.clocks, (c.requires.variables, room))))
 
 pub emit-emit-requires-in-If-2 : goal.emit-emit-requires-in-If-2
@@ -275,7 +272,7 @@ emit-emit-requires-in-If-2 g t c =
     let room = same_room _ _ refl c.deref-in-If-2.ensures
     (moved_room _ _ left (second_room _ _ _ c.in-If.is c.requires.room)) in
     let same = ap the_size c.deref-in-If-2.ensures in
-    let less = then_smaller c.in-If.is in
+    let less = (if_smaller c.in-If.is).1 in
     λ κs h. (omega (arith, same, less, c.decreases), (h, (clocks, (variables, room))))
 
 pub emit-emit-requires-in-If-3 : goal.emit-emit-requires-in-If-3
@@ -301,7 +298,7 @@ emit-emit-requires-in-If-3 g t c =
     let room = same_room _ _ refl c.deref-in-If-3.ensures
     (moved_room _ _ left (third_room _ _ _ c.in-If.is c.requires.room)) in
     let same = ap the_size c.deref-in-If-3.ensures in
-    let less = else_smaller c.in-If.is in
+    let less = (if_smaller c.in-If.is).2 in
     λ κs h. (omega (arith, same, less, c.decreases), (h, (clocks, (variables, room))))
 
 pub emit-choose-requires-clause-from : goal.emit-choose-requires-clause-from

@@ -1,6 +1,5 @@
-use Rattle.lb_expand.proofs.Words.{◌≡◌, ◌≤◌, drop, place_of, stacked, emit_list, numbers_of}
-use Rattle.lb_expand.proofs.Words.{state_of, emitted_of}
-use Rattle.lb_expand.proofs.emission.EmittedWalks.{listed_onto}
+use Rattle.lb_expand.proofs.Words.{drop, emit_list, emitted_of, numbers_of, place_of, stacked}
+use Rattle.lb_expand.proofs.{Words.{state_of, ◌≡◌, ◌≤◌}, emission.EmittedWalks.listed_onto}
 use Rattle.lb_expand.proofs.expansion.term_emission.TermEmission.+form_emission.Given as goal
 
 abbrev pub invariant-emit_all-loop-term : goal.invariant-emit_all-loop-term

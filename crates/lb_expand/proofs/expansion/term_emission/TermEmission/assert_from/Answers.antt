@@ -1,8 +1,7 @@
-use Rattle.lb_expand.proofs.Words.{◌<◌, ◌≤◌, ℕ, List, length, drop, get_or, arith, Vec, Global, ap}
-use Rattle.lb_expand.proofs.Words.{◌∙◌, ElementId, numbers_of, state_of, with_asserted}
-use Rattle.lb_expand.proofs.emission.EmittedChains.{assert_more, assert_ends}
-use Rattle.lb_expand.proofs.emission.EmittedStacks.{number_at}
-use Rattle.lb_expand.proofs.emission.EmittedStacks.{numbers_many}
+use Rattle.lb_expand.proofs.Words.{ElementId, Global, List, Vec, ap, arith, drop, get_or, length}
+use Rattle.lb_expand.proofs.Words.{numbers_of, state_of, with_asserted, ℕ, ◌<◌, ◌∙◌, ◌≤◌}
+use Rattle.lb_expand.proofs.emission.EmittedChains.{assert_ends, assert_more}
+use Rattle.lb_expand.proofs.emission.EmittedStacks.{number_at, numbers_many}
 use Rattle.lb_expand.proofs.expansion.term_emission.TermEmission.assert_from.Goals as goal
 
 pub loop-i-preserved : goal.loop-i-preserved

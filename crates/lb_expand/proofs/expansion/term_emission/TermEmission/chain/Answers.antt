@@ -1,8 +1,7 @@
-use Rattle.lb_expand.proofs.Words.{◌<◌, ◌≤◌, length, get_or, arith, Vec, Global, ap, ◌∙◌, ℕ, List}
-use Rattle.lb_expand.proofs.Words.{ElementId, FlatClock, numbers_of, state_of, clock_of, Clock}
-use Rattle.lb_expand.proofs.emission.EmittedChains.{chain_step, chain_end}
-use Rattle.lb_expand.proofs.emission.EmittedStacks.{number_at}
-use Rattle.lb_expand.proofs.emission.EmittedStacks.{numbers_many}
+use Rattle.lb_expand.proofs.Words.{Clock, ElementId, FlatClock, Global, List, Vec, ap, arith}
+use Rattle.lb_expand.proofs.Words.{clock_of, get_or, length, numbers_of, state_of, sym, ℕ, ◌<◌, ◌∙◌}
+use Rattle.lb_expand.proofs.{Words.◌≤◌, emission.EmittedChains.{chain_step, chained_ends}}
+use Rattle.lb_expand.proofs.emission.EmittedStacks.{number_at, numbers_many}
 use Rattle.lb_expand.proofs.expansion.term_emission.TermEmission.chain.Goals as goal
 
 pub loop-i-preserved : goal.loop-i-preserved
@@ -32,4 +31,4 @@ returns-clause-chained c =
     let all = numbers_of c.args.self.now.found.items in
     let le : length all ≤ l.i =
     omega (arith, numbers_many, c.loop-i-test.false, l.auto.i-end, c.len-i-end.ensures) in
-    chain_end _ _ _ _ _ _ _ le l.invariant.rest
+    sym (chained_ends _ _ _ _ _ _ le) ∙ l.invariant.rest

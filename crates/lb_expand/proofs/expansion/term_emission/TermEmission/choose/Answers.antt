@@ -1,8 +1,7 @@
-use Rattle.lb_expand.proofs.Words.{◌<◌, ◌+◌, ◌-◌, ◌^◌, min, subst, arith, ap, ◌∙◌, length-map}
-use Rattle.lb_expand.proofs.Words.{ElementId, emitted_of, clock_of}
-use Rattle.lb_expand.proofs.emission.EmittedRooms.{chosen_is, none_chosen, choose_room}
-use Rattle.lb_expand.proofs.emission.EmittedStacks.{number_at}
-use Rattle.lb_expand.proofs.emission.EmittedStacks.{numbers_many}
+use Rattle.lb_expand.proofs.Words.{ElementId, ap, arith, clock_of, emitted_of, length-map, min}
+use Rattle.lb_expand.proofs.Words.{subst, ◌+◌, ◌-◌, ◌<◌, ◌^◌, ◌∙◌}
+use Rattle.lb_expand.proofs.emission.EmittedRooms.{choose_room, chosen_is, none_chosen}
+use Rattle.lb_expand.proofs.emission.EmittedStacks.{number_at, numbers_many}
 use Rattle.lb_expand.proofs.expansion.term_emission.TermEmission.choose.Goals as goal
 
 pub pairs-requires-clause-room : goal.pairs-requires-clause-room

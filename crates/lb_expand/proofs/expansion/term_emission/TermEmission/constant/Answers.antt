@@ -1,5 +1,4 @@
-use Rattle.lb_expand.proofs.emission.EmittedRooms.{same_clock}
-use Rattle.lb_expand.proofs.emission.EmittedWalks.{constant_done}
+use Rattle.lb_expand.proofs.emission.{EmittedRooms.same_clock, EmittedWalks.constant_done}
 use Rattle.lb_expand.proofs.expansion.term_emission.TermEmission.constant.Goals as goal
 
 pub push_found-requires-clause-can : goal.push_found-requires-clause-can

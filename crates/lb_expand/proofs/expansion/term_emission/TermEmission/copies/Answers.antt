@@ -23,6 +23,5 @@ returns-clause-emitted c =
     let all = numbers_of c.args.self.now.found.items in
     let within : c.args.from ≤ length all = omega (arith, numbers_many, c.requires.from) in
     let top : c.len-top.result ≡ length all = omega (arith, numbers_many, c.len-top.ensures) in
-    let done : l.i ≡ c.args.count =
-    omega (arith, c.loop-i-test.false, l.auto.i-end) in
+    let done : l.i ≡ c.args.count = omega (arith, c.loop-i-test.false, l.auto.i-end) in
     copies_end _ _ _ _ _ _ _ within top done l.invariant.emitted c.remove.ensures.emitted

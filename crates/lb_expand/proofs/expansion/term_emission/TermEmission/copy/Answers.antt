@@ -1,10 +1,8 @@
-use Rattle.lb_expand.proofs.Words.{◌<◌, ◌≤◌, ◌+◌, ◌-◌, ℕ, List, length, drop, get_or, min, arith}
-use Rattle.lb_expand.proofs.Words.{Vec, Global, refl, sym, ap, ◌∙◌, min-le_left, min-le_right}
-use Rattle.lb_expand.proofs.Words.{length-drop, get_or-drop, ElementId, FlatClock, numbers_of}
-use Rattle.lb_expand.proofs.Words.{clock_of, Clock}
-use Rattle.lb_expand.proofs.emission.EmittedCalls.{copy_step, copy_ends}
-use Rattle.lb_expand.proofs.emission.EmittedStacks.{number_at}
-use Rattle.lb_expand.proofs.emission.EmittedStacks.{numbers_many}
+use Rattle.lb_expand.proofs.Words.{Clock, ElementId, FlatClock, Global, List, Vec, ap, arith}
+use Rattle.lb_expand.proofs.Words.{clock_of, drop, get_or, get_or-drop, length, length-drop, min}
+use Rattle.lb_expand.proofs.Words.{min-le_left, min-le_right, numbers_of, refl, sym, ℕ, ◌+◌, ◌-◌}
+use Rattle.lb_expand.proofs.{Words.{◌<◌, ◌∙◌, ◌≤◌}, emission.EmittedCalls.{copy_ends, copy_step}}
+use Rattle.lb_expand.proofs.emission.EmittedStacks.{number_at, numbers_many}
 use Rattle.lb_expand.proofs.expansion.term_emission.TermEmission.copy.Goals as goal
 
 pub loop-i-preserved : goal.loop-i-preserved

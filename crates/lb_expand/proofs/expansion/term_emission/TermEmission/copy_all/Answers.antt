@@ -1,7 +1,7 @@
-use Rattle.lb_expand.proofs.Words.{◌<◌, ℕ, List, drop, arith, Vec, Global, ap, ◌∙◌, range_with_len}
-use Rattle.lb_expand.proofs.Words.{ElementId, index_copies, with_copies, numbers_of, state_of}
-use Rattle.lb_expand.proofs.Words.{flat_map}
-use Rattle.lb_expand.proofs.emission.EmittedCalls.{index_step, index_ends}
+use Rattle.lb_expand.proofs.Words.{ElementId, Global, List, Vec, ap, arith, drop, flat_map}
+use Rattle.lb_expand.proofs.Words.{index_copies, numbers_of, range_with_len, state_of, with_copies}
+use Rattle.lb_expand.proofs.{Words.{ℕ, ◌<◌, ◌∙◌}, emission.EmittedCalls.{copying_ends, index_step}}
+use Rattle.lb_expand.proofs.emission.EmittedCalls.{range_done}
 use Rattle.lb_expand.proofs.expansion.term_emission.TermEmission.copy_all.Goals as goal
 
 pub loop-index-preserved : goal.loop-index-preserved
@@ -26,6 +26,6 @@ returns-clause-state g c =
     let is = drop c.args.from (numbers_of old.found.items) in
     let f = index_copies ctx c.args.call m c.args.iterator c.args.callee is in
     let whole = with_copies (state_of old) (flat_map f (range_with_len 0 m)) in
-    index_ends (state_of l.self) whole f l.index m
-    (omega (arith, c.loop-index-test.false, l.auto.index-end, c.repeats-index-end.ensures))
+    copying_ends (state_of l.self) whole _ (ap (flat_map f) (range_done 0 m l.index
+    (omega (arith, c.loop-index-test.false, l.auto.index-end, c.repeats-index-end.ensures))))
     l.invariant.rest

@@ -1,9 +1,8 @@
-use Rattle.lb_expand.proofs.Words.{◌≡◌, ◌≤◌, ◌+◌, ◌-◌, ℕ, List, length, drop, min, arith, Vec}
-use Rattle.lb_expand.proofs.Words.{Global, OnOk, refl, sym, ap, ap₂, subst, ◌∙◌, range_with_len}
-use Rattle.lb_expand.proofs.Words.{length-range_with_len, ArrayIterator, ElementId, index_copies}
-use Rattle.lb_expand.proofs.Words.{part_copies, with_copies, numbers_of, state_of}
-use Rattle.lb_expand.proofs.emission.EmittedCalls.{red_copied}
-use Rattle.lb_expand.proofs.emission.EmittedStacks.{numbers_many}
+use Rattle.lb_expand.proofs.Words.{ArrayIterator, ElementId, Global, List, OnOk, Vec, ap, ap₂}
+use Rattle.lb_expand.proofs.Words.{arith, drop, index_copies, length, length-range_with_len, min}
+use Rattle.lb_expand.proofs.Words.{numbers_of, part_copies, range_with_len, refl, state_of, subst}
+use Rattle.lb_expand.proofs.Words.{sym, with_copies, ℕ, ◌+◌, ◌-◌, ◌∙◌, ◌≡◌, ◌≤◌}
+use Rattle.lb_expand.proofs.emission.{EmittedCalls.red_copied, EmittedStacks.numbers_many}
 use Rattle.lb_expand.proofs.expansion.term_emission.TermEmission.copy_index.Goals as goal
 
 pub returns-in_ok-copy_accumulator-in-Red-clause-state :

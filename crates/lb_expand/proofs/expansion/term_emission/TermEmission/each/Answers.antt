@@ -1,45 +1,35 @@
-use Rattle.lb_expand.proofs.Words.{◌≡◌, ◌<◌, ◌≤◌, length, map, drop, arith, Vec, Global, ap, ◌∙◌}
-use Rattle.lb_expand.proofs.Words.{length-map, subst, sym}
-use Rattle.lb_expand.proofs.Words.{ElementId, FlatClock, unary_of, numbers_of, emitted_of, without}
-use Rattle.lb_expand.proofs.Words.{clock_of, operation_of, Clock}
-use Rattle.lb_expand.proofs.emission.EmittedStacks.{each_step, below_at, adding_ends, map_all}
-use Rattle.lb_expand.proofs.emission.EmittedStacks.{numbers_many, still_long}
+use Rattle.lb_expand.proofs.Words.{Clock, ElementId, FlatClock, Global, Vec, ap, arith, clock_of}
+use Rattle.lb_expand.proofs.Words.{drop, drop_all, emitted_of, length, map, numbers_of}
+use Rattle.lb_expand.proofs.Words.{operation_of, subst, sym, unary_of, without, ◌<◌, ◌∙◌, ◌≡◌, ◌≤◌}
+use Rattle.lb_expand.proofs.emission.EmittedStacks.{adding_ends, below_at, each_step, numbers_many}
+use Rattle.lb_expand.proofs.emission.EmittedStacks.{still_long}
 use Rattle.lb_expand.proofs.expansion.term_emission.TermEmission.each.Goals as goal
 
 pub index-a-requires : goal.index-a-requires
 index-a-requires c =
-    let l = c.loop-i in
-    let old = c.args.self.now in
-    let size = length-map old.found.items (λ (a : ElementId). a.0) in
-    let long = still_long l.self.found.items (numbers_of old.found.items)
-    l.invariant.adding.below in
-    omega (arith, size, long, l.self.found.ok.0)
+    let now = c.loop-i.self in
+    let long = still_long now.found.items c.args.self.now.found.items
+    c.loop-i.invariant.adding.below in
+    omega (arith, long, now.found.ok.0)
 
 pub push_found-requires-clause-can : goal.push_found-requires-clause-can
 push_found-requires-clause-can c =
     let l = c.loop-i in
-    let old = c.args.self.now in
     let now = l.self in
-    let a = c.index-a.result.now in
-    let size = length-map old.found.items (λ (a : ElementId). a.0) in
-    let long = still_long now.found.items (numbers_of old.found.items) l.invariant.adding.below in
-    let lt : l.i < length now.found.items = omega (arith, size, long) in
-    let below : a.0 < now.next =
-    subst (λ (x : ElementId). x.0 < now.next) (sym c.index-a.ensures)
-    (now.found_within l.i a lt) in
+    let long = still_long now.found.items c.args.self.now.found.items l.invariant.adding.below in
+    let lt : l.i < length now.found.items = omega (arith, long) in
     record {
       room = omega (arith, l.invariant.next, c.requires.room);
-      operands = c.on-operation.ensures.below now.next below;
+      operands = c.on-operation.ensures.below now.next
+          (subst (λ (x : ElementId). x.0 < now.next) (sym c.index-a.ensures)
+          (now.found_within l.i c.index-a.result.now lt));
     }
 
 pub remove-requires-clause-to : goal.remove-requires-clause-to
 remove-requires-clause-to c =
-    let l = c.loop-i in
-    let old = c.args.self.now in
-    let size = length-map old.found.items (λ (a : ElementId). a.0) in
-    let long = still_long l.self.found.items (numbers_of old.found.items)
-    l.invariant.adding.below in
-    omega (arith, size, long, c.len-top.ensures)
+    let long = still_long c.loop-i.self.found.items c.args.self.now.found.items
+    c.loop-i.invariant.adding.below in
+    omega (arith, long, c.len-top.ensures)
 
 pub loop-i-preserved : goal.loop-i-preserved
 loop-i-preserved c =
@@ -69,5 +59,6 @@ returns-clause-emitted c =
     let le : length all ≤ l.i =
     omega (arith, numbers_many, c.loop-i-test.false, l.auto.i-end, c.len-top.ensures) in
     let within : c.args.from ≤ length all = omega (arith, numbers_many, c.requires.from) in
-    adding_ends _ _ _ _ _ _ _ l.invariant.adding (map_all _ _ _ le) within (c.remove.ensures.emitted
+    adding_ends _ _ _ _ _ _ _ l.invariant.adding (ap (map _) (drop_all _ _ le)) within
+    (c.remove.ensures.emitted
     ∙ ap (λ n. without c.args.from n (emitted_of l.self)) top)

@@ -1,6 +1,5 @@
-use Rattle.lb_expand.proofs.Words.{arith, Vec, Global, refl, ap, append-nil, FlatClock, state_of}
-use Rattle.lb_expand.proofs.Words.{clock_of, Clock}
-use Rattle.lb_expand.proofs.emission.EmittedCalls.{give_step}
+use Rattle.lb_expand.proofs.Words.{Clock, FlatClock, Global, Vec, ap, append-nil, arith, clock_of}
+use Rattle.lb_expand.proofs.{Words.{refl, state_of}, emission.EmittedCalls.give_step}
 use Rattle.lb_expand.proofs.expansion.term_emission.TermEmission.give.Goals as goal
 
 pub loop-i-init : goal.loop-i-init

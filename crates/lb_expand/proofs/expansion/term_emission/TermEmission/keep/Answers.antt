@@ -1,9 +1,7 @@
-use Rattle.lb_expand.proofs.Words.{◌<◌, ◌≤◌, ℕ, List, length, get_or, arith, Vec, Global, ap, ◌∙◌}
-use Rattle.lb_expand.proofs.Words.{ElementId, numbers_of, emitted_of}
-use Rattle.lb_expand.specs.TermEmissions.{kept}
-use Rattle.lb_expand.proofs.emission.EmittedChains.{keep_more, keep_ends}
-use Rattle.lb_expand.proofs.emission.EmittedStacks.{number_at}
-use Rattle.lb_expand.proofs.emission.EmittedStacks.{numbers_many}
+use Rattle.lb_expand.proofs.Words.{ElementId, Global, List, Vec, ap, arith, emitted_of, get_or}
+use Rattle.lb_expand.proofs.Words.{length, numbers_of, ℕ, ◌<◌, ◌∙◌, ◌≤◌}
+use Rattle.lb_expand.proofs.emission.{EmittedChains.{keep_ends, keep_more}, EmittedStacks.number_at}
+use Rattle.lb_expand.{proofs.emission.EmittedStacks.numbers_many, specs.TermEmissions.kept}
 use Rattle.lb_expand.proofs.expansion.term_emission.TermEmission.keep.Goals as goal
 
 pub loop-i-preserved : goal.loop-i-preserved

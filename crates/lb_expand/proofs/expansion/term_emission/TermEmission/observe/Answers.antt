@@ -1,9 +1,8 @@
-use Rattle.lb_expand.proofs.Words.{◌≡◌, ◌+◌, ◌-◌, ℕ, List, length, take, drop, arith, Vec, Global}
-use Rattle.lb_expand.proofs.Words.{ap, ap₂, ◌∙◌, length-append, ElementId, Emitted, gives, copied}
-use Rattle.lb_expand.proofs.Words.{Context, parameter_targets, places_from, with_copies, numbers_of}
-use Rattle.lb_expand.proofs.Words.{state_of, onto}
-use Rattle.lb_expand.proofs.emission.EmittedCalls.{observed_done, observed_gone}
-use Rattle.lb_expand.proofs.emission.EmittedStacks.{numbers_many}
+use Rattle.lb_expand.proofs.Words.{Context, ElementId, Emitted, Global, List, Vec, ap, ap₂, arith}
+use Rattle.lb_expand.proofs.Words.{copied, drop, gives, length, length-append, numbers_of, onto}
+use Rattle.lb_expand.proofs.Words.{parameter_targets, places_from, state_of, take, with_copies, ℕ}
+use Rattle.lb_expand.proofs.{Words.{◌+◌, ◌-◌, ◌∙◌, ◌≡◌}, emission.EmittedCalls.observed_done}
+use Rattle.lb_expand.proofs.emission.{EmittedCalls.observed_gone, EmittedStacks.numbers_many}
 use Rattle.lb_expand.proofs.expansion.term_emission.TermEmission.observe.Goals as goal
 
 pub copy_parameters-requires-clause-from : goal.copy_parameters-requires-clause-from

@@ -1,11 +1,11 @@
-use Rattle.lb_expand.proofs.Words.{◌≡◌, ◌<◌, ◌≤◌, ◌+◌, ◌-◌, length, drop, min, arith, Vec, Global}
-use Rattle.lb_expand.proofs.Words.{ap, sym, ◌∙◌, min-le_left, min-le_right, length-map, length-drop}
-use Rattle.lb_expand.proofs.Words.{ℕ, subst, get_or-drop, slice_range, zip2, ElementId, FlatClock, pair_of}
-use Rattle.lb_expand.proofs.Words.{numbers_of, emitted_of, without, clock_of, operation_of, Clock}
-use Rattle.lb_expand.proofs.emission.EmittedStacks.{pairs_step, below_at, part_at, length_of_part}
-use Rattle.lb_expand.proofs.emission.EmittedStacks.{adding_ends, zip_done, still_long}
-use Rattle.lb_expand.specs.Operators.{IsPairBelow}
-use Rattle.lb_expand.specs.declared.expansion.operators.Pair.{Pair}
+use Rattle.lb_expand.proofs.Words.{Clock, ElementId, FlatClock, Global, Vec, ap, arith, clock_of}
+use Rattle.lb_expand.proofs.Words.{drop, emitted_of, get_or-drop, length, length-drop, length-map}
+use Rattle.lb_expand.proofs.Words.{min, min-le_left, min-le_right, numbers_of, operation_of}
+use Rattle.lb_expand.proofs.Words.{pair_of, slice_range, subst, sym, without, zip2, ℕ, ◌+◌, ◌-◌}
+use Rattle.lb_expand.proofs.{Words.{◌<◌, ◌∙◌, ◌≡◌, ◌≤◌}, emission.EmittedStacks.adding_ends}
+use Rattle.lb_expand.proofs.emission.EmittedStacks.{below_at, length_of_part, pairs_step, part_at}
+use Rattle.lb_expand.proofs.emission.EmittedStacks.{still_long, zip_done}
+use Rattle.lb_expand.specs.{Operators.IsPairBelow, declared.expansion.operators.Pair.Pair}
 use Rattle.lb_expand.specs.declared.expansion.operators.Pair.TheVariants as pair
 use Rattle.lb_expand.proofs.expansion.term_emission.TermEmission.pairs.Goals as goal
 
@@ -16,59 +16,46 @@ pair_later n m (pair.Choose c) h le = omega (arith, h, le)
 
 pub index-a-requires : goal.index-a-requires
 index-a-requires c =
-    let l = c.loop-i in
-    let old = c.args.self.now in
-    let size = length-map old.found.items (λ (a : ElementId). a.0) in
-    let long = still_long l.self.found.items (numbers_of old.found.items)
-    l.invariant.adding.below in
+    let now = c.loop-i.self in
+    let long = still_long now.found.items c.args.self.now.found.items
+    c.loop-i.invariant.adding.below in
     let left = min-le_left (c.args.middle - c.args.from) (c.len-top.result - c.args.middle) in
-    omega (arith, size, long, left, l.self.found.ok.0)
+    omega (arith, long, left, now.found.ok.0)
 
 pub index-b-requires : goal.index-b-requires
 index-b-requires c =
-    let l = c.loop-i in
-    let old = c.args.self.now in
-    let size = length-map old.found.items (λ (a : ElementId). a.0) in
-    let long = still_long l.self.found.items (numbers_of old.found.items)
-    l.invariant.adding.below in
+    let now = c.loop-i.self in
+    let long = still_long now.found.items c.args.self.now.found.items
+    c.loop-i.invariant.adding.below in
     let right = min-le_right (c.args.middle - c.args.from) (c.len-top.result - c.args.middle) in
-    omega (arith, size, long, right, l.self.found.ok.0)
+    omega (arith, long, right, now.found.ok.0)
 
 pub push_found-requires-clause-can : goal.push_found-requires-clause-can
 push_found-requires-clause-can c =
     let l = c.loop-i in
     let old = c.args.self.now in
     let now = l.self in
-    let a = c.index-a.result.now in
-    let b = c.index-b.result.now in
-    let size = length-map old.found.items (λ (a : ElementId). a.0) in
-    let long = still_long now.found.items (numbers_of old.found.items) l.invariant.adding.below in
+    let long = still_long now.found.items old.found.items l.invariant.adding.below in
     let left = min-le_left (c.args.middle - c.args.from) (c.len-top.result - c.args.middle) in
     let right = min-le_right (c.args.middle - c.args.from) (c.len-top.result - c.args.middle) in
-    let first : c.args.from + l.i < length now.found.items = omega (arith, size, long, left) in
-    let second : c.args.middle + l.i < length now.found.items = omega (arith, size, long, right) in
+    let first : c.args.from + l.i < length now.found.items = omega (arith, long, left) in
+    let second : c.args.middle + l.i < length now.found.items = omega (arith, long, right) in
     let later : old.next ≤ now.next = omega (arith, l.invariant.next) in
-    let a_below : a.0 < now.next =
-    subst (λ (x : ElementId). x.0 < now.next) (sym c.index-a.ensures)
-    (now.found_within (c.args.from + l.i) a first) in
-    let b_below : b.0 < now.next =
-    subst (λ (x : ElementId). x.0 < now.next) (sym c.index-b.ensures)
-    (now.found_within (c.args.middle + l.i) b second) in
+    let below : ElementId → Type 0 = λ x. x.0 < now.next in
     record {
       room = omega (arith, l.invariant.next, c.requires.room);
       operands =
           c.on-operation.ensures.below now.next
-          (pair_later old.next now.next c.args.operator c.requires.operator later) a_below b_below;
+          (pair_later old.next now.next c.args.operator c.requires.operator later)
+          (subst below (sym c.index-a.ensures) (now.found_within _ c.index-a.result.now first))
+          (subst below (sym c.index-b.ensures) (now.found_within _ c.index-b.result.now second));
     }
 
 pub remove-requires-clause-to : goal.remove-requires-clause-to
 remove-requires-clause-to c =
-    let l = c.loop-i in
-    let old = c.args.self.now in
-    let size = length-map old.found.items (λ (a : ElementId). a.0) in
-    let long = still_long l.self.found.items (numbers_of old.found.items)
-    l.invariant.adding.below in
-    omega (arith, size, long, c.len-top.ensures)
+    let long = still_long c.loop-i.self.found.items c.args.self.now.found.items
+    c.loop-i.invariant.adding.below in
+    omega (arith, long, c.len-top.ensures)
 
 pub loop-i-preserved : goal.loop-i-preserved
 loop-i-preserved c =

@@ -1,6 +1,5 @@
-use Rattle.lb_expand.proofs.Words.{◌≡◌, ◌+◌, drop, slice_range, zip2, emitted_of, pair_of}
-use Rattle.lb_expand.proofs.Words.{numbers_of, clock_of}
-use Rattle.lb_expand.proofs.emission.EmittedStacks.{IsAdding}
+use Rattle.lb_expand.proofs.Words.{clock_of, drop, emitted_of, numbers_of, pair_of, slice_range}
+use Rattle.lb_expand.proofs.{Words.{zip2, ◌+◌, ◌≡◌}, emission.EmittedStacks.IsAdding}
 use Rattle.lb_expand.proofs.expansion.term_emission.TermEmission.pairs.Given as goal
 
 abbrev pub invariant-loop-i : goal.invariant-loop-i

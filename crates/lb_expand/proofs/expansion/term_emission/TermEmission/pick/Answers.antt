@@ -1,6 +1,5 @@
-use Rattle.lb_expand.proofs.Words.{◌≡◌, ◌≤◌, ◌+◌, ◌-◌, length, take, arith, ap, ◌∙◌, gives}
-use Rattle.lb_expand.proofs.Words.{state_of, numbers_of}
-use Rattle.lb_expand.proofs.emission.EmittedCuts.{pick_is}
+use Rattle.lb_expand.proofs.Words.{ap, arith, gives, length, numbers_of, state_of, take, ◌+◌, ◌-◌}
+use Rattle.lb_expand.proofs.{Words.{◌∙◌, ◌≡◌, ◌≤◌}, emission.EmittedCuts.pick_is}
 use Rattle.lb_expand.proofs.emission.EmittedStacks.{numbers_many}
 use Rattle.lb_expand.proofs.expansion.term_emission.TermEmission.pick.Goals as goal
 

@@ -1,6 +1,5 @@
-use Rattle.lb_expand.proofs.Words.{◌+◌, ℕ, List, arith, refl, append-nil, elements_of, numbers_of}
-use Rattle.lb_expand.proofs.Words.{state_of, emitted_of}
-use Rattle.lb_expand.proofs.emission.EmittedCalls.{put_flat}
+use Rattle.lb_expand.proofs.Words.{List, append-nil, arith, elements_of, emitted_of, numbers_of}
+use Rattle.lb_expand.proofs.{Words.{refl, state_of, ℕ, ◌+◌}, emission.EmittedCalls.put_flat}
 use Rattle.lb_expand.proofs.expansion.term_emission.TermEmission.put_each.Goals as goal
 
 pub loop-index-init : goal.loop-index-init

@@ -1,6 +1,5 @@
-use Rattle.lb_expand.proofs.Words.{◌≡◌, ◌+◌, ◌-◌, arith, ◌∙◌, append-nil, elements_of, numbers_of}
-use Rattle.lb_expand.proofs.Words.{state_of, emitted_of}
-use Rattle.lb_expand.proofs.emission.EmittedCalls.{put_flat}
+use Rattle.lb_expand.proofs.Words.{append-nil, arith, elements_of, emitted_of, numbers_of, state_of}
+use Rattle.lb_expand.proofs.{Words.{◌+◌, ◌-◌, ◌∙◌, ◌≡◌}, emission.EmittedCalls.put_flat}
 use Rattle.lb_expand.proofs.expansion.term_emission.TermEmission.put_parameters.Goals as goal
 
 pub loop-x-init : goal.loop-x-init

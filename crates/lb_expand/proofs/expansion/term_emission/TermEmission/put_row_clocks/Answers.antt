@@ -1,8 +1,7 @@
 -- The node of the row is found, so its clocks can be put.
-use Rattle.lb_expand.proofs.Words.{◌≡◌, ℕ, Bool, List, length, OnOk, sym, ap, subst, ◌∙◌}
-use Rattle.lb_expand.proofs.Words.{clocks_named, HasFlags, gives, numbers_of, state_of, emitted_of}
-use Rattle.lb_expand.proofs.Words.{onto, option_map}
-use Rattle.lb_expand.proofs.clock_tables.ServingClocks.{clocks_found}
+use Rattle.lb_expand.proofs.Words.{Bool, HasFlags, List, OnOk, ap, clocks_named, emitted_of, gives}
+use Rattle.lb_expand.proofs.Words.{length, numbers_of, onto, option_map, state_of, subst, sym, ℕ}
+use Rattle.lb_expand.proofs.{Words.{◌∙◌, ◌≡◌}, clock_tables.ServingClocks.clocks_found}
 use Rattle.lb_expand.proofs.expansion.term_emission.TermEmission.put_row_clocks.Goals as goal
 
 pub returns-in_ok-flags-in-Some-clause-emitted : goal.returns-in_ok-flags-in-Some-clause-emitted

@@ -1,8 +1,6 @@
-use Rattle.lb_expand.proofs.Words.{◌<◌, ℕ, List, length, arith, Vec, Global, ap, ◌∙◌, ElementId}
-use Rattle.lb_expand.proofs.Words.{numbers_of}
-use Rattle.lb_expand.proofs.emission.EmittedCuts.{red_is, red_none}
-use Rattle.lb_expand.proofs.emission.EmittedStacks.{number_at}
-use Rattle.lb_expand.proofs.emission.EmittedStacks.{numbers_many}
+use Rattle.lb_expand.proofs.Words.{ElementId, Global, List, Vec, ap, arith, length, numbers_of, ℕ}
+use Rattle.lb_expand.proofs.{Words.{◌<◌, ◌∙◌}, emission.EmittedCuts.{red_is, red_none}}
+use Rattle.lb_expand.proofs.emission.EmittedStacks.{number_at, numbers_many}
 use Rattle.lb_expand.proofs.expansion.term_emission.TermEmission.red.Goals as goal
 
 pub returns-in_ok-replace-clause-emitted : goal.returns-in_ok-replace-clause-emitted

@@ -1,7 +1,7 @@
 -- A row has the statements of its node; a row without a node has none.
-use Rattle.lb_expand.proofs.Words.{◌≡◌, ◌<◌, ◌^◌, OnOk, sym, ap, subst, ◌∙◌, State, state_of}
-use Rattle.lb_expand.proofs.Words.{option_map}
-use Rattle.lb_expand.proofs.emission.EmittedStatements.{row_is, row_none, row_places}
+use Rattle.lb_expand.proofs.Words.{OnOk, State, ap, emit_rows, listed, option_map, state_of, subst}
+use Rattle.lb_expand.proofs.Words.{sym, with_body, ◌<◌, ◌^◌, ◌∙◌, ◌≡◌}
+use Rattle.lb_expand.proofs.emission.EmittedStatements.{no_row, row_is, row_places}
 use Rattle.lb_expand.proofs.expansion.term_emission.TermEmission.row.Goals as goal
 
 pub statements-requires-clause-elements : goal.statements-requires-clause-elements
@@ -33,5 +33,6 @@ returns-in-Some-clause-state g c =
 pub returns-in-None-clause-state : goal.returns-in-None-clause-state
 returns-in-None-clause-state g c =
     let none = sym c.node_at.ensures ∙ ap (option_map (λ n. n.now)) c.in-None.is in
-    sym (row_none c.args.reached.now c.args.table.now (g.F.TableFrame.contexts c.args.frame.now)
-    (state_of c.args.self.now) c.args.number c.args.row.now none)
+    sym (ap (λ o. emit_rows (state_of c.args.self.now)
+    (listed (with_body ((g.F.TableFrame.contexts c.args.frame.now) c.args.number)) o)) none
+    ∙ no_row (state_of c.args.self.now))

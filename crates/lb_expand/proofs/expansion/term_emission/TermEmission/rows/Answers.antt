@@ -1,9 +1,8 @@
-use Rattle.lb_expand.proofs.Words.{◌<◌, ◌^◌, ℕ, length, arith, refl, sym, ap, subst, ◌∙◌}
-use Rattle.lb_expand.proofs.Words.{slice_get_read, Every, State, body_in, bodies, IsCounted, HasRow}
-use Rattle.lb_expand.proofs.Words.{Context, emit_rows, state_of, Bool}
-use Rattle.lb_expand.proofs.emission.EmittedStatements.{row_step, rows_end, row_room, row_counted}
-use Rattle.lb_expand.proofs.emission.EmittedStatements.{rest_counted}
-use Rattle.lb_expand.proofs.emission.TermSteps.{rows_grow}
+use Rattle.lb_expand.proofs.Words.{Bool, Context, Every, Every-first, Every-second, HasRow}
+use Rattle.lb_expand.proofs.Words.{IsCounted, State, ap, arith, bodies, body_in, drop, emit_rows}
+use Rattle.lb_expand.proofs.Words.{length, refl, slice_get_read, state_of, subst, sym, ℕ, ◌+◌, ◌<◌}
+use Rattle.lb_expand.proofs.{Words.{◌^◌, ◌∙◌}, emission.EmittedStatements.{counted_more, row_room}}
+use Rattle.lb_expand.proofs.emission.{EmittedStatements.{row_step, rows_end}, TermSteps.rows_grow}
 use Rattle.lb_expand.proofs.expansion.term_emission.TermEmission.rows.Goals as goal
 
 pub row-requires-clause-elements : goal.row-requires-clause-elements
@@ -35,7 +34,9 @@ row-requires-clause-places g c =
     omega (arith, c.loop-number-test.true, l.auto.number-end, c.len-number-end.ensures) in
     subst (λ (cs : ℕ → Context). Every IsCounted (body_in r t cs l.number i))
     (sym l.invariant.contexts)
-    (row_counted r t cs is l.number i i lt c.index.ensures l.invariant.counted)
+    (Every-first IsCounted (body_in r t cs l.number i) (bodies r t cs (l.number + 1)
+    (drop (l.number + 1) is)) (counted_more r t cs is l.number i i lt c.index.ensures
+    l.invariant.counted))
 
 pub row-requires-clause-there : goal.row-requires-clause-there
 row-requires-clause-there g c =
@@ -69,8 +70,9 @@ loop-number-preserved g c =
     record {
       rest = row_step r t cs s (state_of c.row.new.self) whole is l.number i i lt
           c.index.ensures gives l.invariant.rest;
-      counted = rest_counted r t cs is l.number i i lt c.index.ensures
-          l.invariant.counted;
+      counted = Every-second IsCounted (body_in r t cs l.number i) (bodies r t cs (l.number + 1)
+          (drop (l.number + 1) is)) (counted_more r t cs is l.number i i lt c.index.ensures
+          l.invariant.counted);
       next = omega (arith, next, grows, l.invariant.next);
       found = step.found ∙ l.invariant.found;
       clocks = step.clocks ∙ l.invariant.clocks;

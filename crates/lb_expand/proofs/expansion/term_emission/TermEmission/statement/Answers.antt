@@ -1,12 +1,10 @@
-use Rattle.lb_expand.proofs.Words.{List, take, drop, arith, Vec, Global, refl, ap, ◌∙◌, VariableId}
-use Rattle.lb_expand.proofs.Words.{ElementId, Emitted, copied}
-use Rattle.lb_expand.proofs.Words.{left_targets, place_of, with_copies, numbers_of, state_of}
-use Rattle.lb_expand.proofs.Words.{flat_map}
-use Rattle.lb_expand.proofs.emission.EmittedStacks.{numbers_many}
-use Rattle.lb_expand.proofs.emission.EmittedStatements.{equation_room, equation_done}
-use Rattle.lb_expand.proofs.emission.EmittedStatements.{assertion_room, assertion_done, stack_kept}
-use Rattle.lb_expand.proofs.emission.EmittedWalks.{term_left, left_next}
-use Rattle.lb_expand.proofs.emission.TermSteps.{next_grows}
+use Rattle.lb_expand.proofs.Words.{ElementId, Emitted, Global, List, VariableId, Vec, ap, arith}
+use Rattle.lb_expand.proofs.Words.{copied, drop, flat_map, left_targets, numbers_of, place_of, refl}
+use Rattle.lb_expand.proofs.Words.{state_of, take, with_copies, ◌∙◌}
+use Rattle.lb_expand.proofs.emission.{EmittedStacks.numbers_many, EmittedStatements.assertion_done}
+use Rattle.lb_expand.proofs.emission.EmittedStatements.{assertion_room, equation_done}
+use Rattle.lb_expand.proofs.emission.EmittedStatements.{equation_room, stack_kept}
+use Rattle.lb_expand.proofs.emission.{EmittedWalks.{left_next, term_left}, TermSteps.next_grows}
 use Rattle.lb_expand.proofs.expansion.term_emission.TermEmission.statement.Goals as goal
 
 pub emit-requires-clause-room : goal.emit-requires-clause-room

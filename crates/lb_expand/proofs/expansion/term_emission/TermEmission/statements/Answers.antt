@@ -1,8 +1,7 @@
-use Rattle.lb_expand.proofs.Words.{arith, ap, PlacedState, first_place, emit_statements, place_of}
-use Rattle.lb_expand.proofs.Words.{state_of}
-use Rattle.lb_expand.proofs.emission.EmittedStatements.{statement_step, statements_end}
-use Rattle.lb_expand.proofs.emission.EmittedStatements.{statement_room, statement_places}
-use Rattle.lb_expand.proofs.emission.TermSteps.{statement_grows}
+use Rattle.lb_expand.proofs.Words.{PlacedState, ap, arith, emit_statements, first_place, place_of}
+use Rattle.lb_expand.proofs.{Words.state_of, emission.EmittedStatements.statement_places}
+use Rattle.lb_expand.proofs.emission.EmittedStatements.{statement_room, statement_step}
+use Rattle.lb_expand.proofs.emission.{EmittedStatements.statements_end, TermSteps.statement_grows}
 use Rattle.lb_expand.proofs.expansion.term_emission.TermEmission.statements.Goals as goal
 
 pub statement-requires-clause-elements : goal.statement-requires-clause-elements

@@ -1,7 +1,6 @@
-use Rattle.lb_expand.proofs.Words.{◌≡◌, ◌<◌, ◌≤◌, ◌+◌, ◌-◌, ◌^◌, length, min, arith, subst, ap, ◌∙◌}
-use Rattle.lb_expand.proofs.Words.{length-map, ArrayIterator, ElementId, symbol, emitted_of, above}
-use Rattle.lb_expand.proofs.Words.{clock_of}
-use Rattle.lb_expand.proofs.emission.EmittedRooms.{map_room, red_room}
+use Rattle.lb_expand.proofs.Words.{ArrayIterator, ElementId, above, ap, arith, clock_of, emitted_of}
+use Rattle.lb_expand.proofs.Words.{length, length-map, min, subst, symbol, ◌+◌, ◌-◌, ◌<◌, ◌^◌, ◌∙◌}
+use Rattle.lb_expand.proofs.{Words.{◌≡◌, ◌≤◌}, emission.EmittedRooms.{map_room, red_room}}
 use Rattle.lb_expand.proofs.expansion.term_emission.TermEmission.symbol.Goals as goal
 
 pub pairs-requires-clause-room : goal.pairs-requires-clause-room

@@ -1,9 +1,8 @@
-use Rattle.lb_expand.proofs.Words.{◌<◌, ◌≤◌, ℕ, length, get_or, arith, Vec, Global, ap, ap₂, ◌∙◌}
-use Rattle.lb_expand.proofs.Words.{List, Or, And, ElementId, push, FlatClock, ApplyBinary}
-use Rattle.lb_expand.proofs.Words.{numbers_of, state_of, clock_of, Clock}
-use Rattle.lb_expand.proofs.emission.EmittedChains.{twice_step, twice_end}
-use Rattle.lb_expand.proofs.emission.EmittedStacks.{number_at}
-use Rattle.lb_expand.proofs.emission.EmittedStacks.{numbers_many}
+use Rattle.lb_expand.proofs.Words.{And, ApplyBinary, Clock, ElementId, FlatClock, Global, List, Or}
+use Rattle.lb_expand.proofs.Words.{Vec, ap, ap₂, arith, clock_of, get_or, length, numbers_of, push}
+use Rattle.lb_expand.proofs.Words.{state_of, sym, ℕ, ◌<◌, ◌∙◌, ◌≤◌}
+use Rattle.lb_expand.proofs.emission.EmittedChains.{twice_ends, twice_step}
+use Rattle.lb_expand.proofs.emission.EmittedStacks.{number_at, numbers_many}
 use Rattle.lb_expand.proofs.expansion.term_emission.TermEmission.two_true.Goals as goal
 
 pub loop-i-preserved : goal.loop-i-preserved
@@ -47,4 +46,4 @@ returns-clause-twice c =
     let all = numbers_of c.args.self.now.found.items in
     let le : length all ≤ l.i =
     omega (arith, numbers_many, c.loop-i-test.false, l.auto.i-end, c.len-i-end.ensures) in
-    twice_end _ _ _ _ _ _ _ le l.invariant.rest
+    sym (twice_ends _ _ _ _ _ _ le) ∙ l.invariant.rest

@@ -1,6 +1,6 @@
-use Rattle.lb_expand.proofs.Words.{inl, inr, refl, sym, ◌∙◌, with_all, place_of, emitted_of}
-use Rattle.lb_expand.proofs.emission.EmittedRooms.{array_form, top_form, same_stays, nor_room}
-use Rattle.lb_expand.proofs.emission.EmittedRooms.{one_room}
+use Rattle.lb_expand.proofs.Words.{List, above, ap, emitted_of, gives, inl, inr, onto, place_of}
+use Rattle.lb_expand.proofs.Words.{refl, sym, take, take-append-drop, ℕ, ◌∙◌}
+use Rattle.lb_expand.proofs.emission.EmittedRooms.{array_form, nor_room, one_room}
 use Rattle.lb_expand.proofs.expansion.term_emission.TermEmission.with_all.Goals as goal
 
 pub at_most_one-requires-clause-room : goal.at_most_one-requires-clause-room
@@ -26,9 +26,8 @@ returns-in_default g c =
     record {
       emitted = elim form.1 [
         | inl is ↦
-            sym (same_stays from x)
-            ∙ top_form from (with_all ctx at t) (λ r. r) x
-            (array_form ctx at form.0 is)
+            sym (ap (λ (is : List ℕ). gives x.state is) (take-append-drop from x.found))
+            ∙ sym (ap (onto (take from x.found)) ((array_form ctx at form.0 is) (above from x)))
         | inr (inl is) ↦ absurd (none.not-AtMostOne form.0 is)
         | inr (inr (inl is)) ↦ absurd (none.not-Nor form.0 is)
         | inr (inr (inr (inl (call, is)))) ↦ absurd (none.not-Call call form.0 is)

@@ -1,11 +1,10 @@
-use Rattle.lb_expand.proofs.Words.{◌≡◌, ◌<◌, ◌+◌, ◌-◌, ◌^◌, length, min, arith, inl, inr, ◌++◌, Vec}
-use Rattle.lb_expand.proofs.Words.{Global, OnOk, false, refl, sym, ap, subst, ◌∙◌, first_value}
-use Rattle.lb_expand.proofs.Words.{Emitted, gives, memory, pairs, with_two, FlatClock, FirstThen}
-use Rattle.lb_expand.proofs.Words.{Previous, place_of, emitted_of, on_two, clock_of, Clock}
-use Rattle.lb_expand.proofs.emission.EmittedRooms.{binary_room, arrow_room, fby_form, join_form}
-use Rattle.lb_expand.proofs.emission.EmittedRooms.{two_form, joined_stays, pairs_after, fby_rooms}
-use Rattle.lb_expand.proofs.emission.EmittedRooms.{same_clock}
-use Rattle.lb_expand.proofs.emission.EmittedStacks.{numbers_many}
+use Rattle.lb_expand.proofs.Words
+use Words.{Clock, Emitted, FirstThen, FlatClock, Global, List, OnOk, Previous, Vec, ap, arith}
+use Words.{clock_of, emitted_of, false, first_value, gives, inl, inr, length, memory, min, on_two}
+use Words.{pairs, place_of, refl, subst, sym, with_two, ℕ, ◌++◌, ◌+◌, ◌-◌, ◌<◌, ◌^◌, ◌∙◌, ◌≡◌}
+use Rattle.lb_expand.proofs.emission.EmittedRooms.{arrow_room, binary_room, fby_form, fby_rooms}
+use Rattle.lb_expand.proofs.emission.EmittedRooms.{join_form, pairs_after, same_clock, three_parts}
+use Rattle.lb_expand.proofs.emission.{EmittedRooms.two_form, EmittedStacks.numbers_many}
 use Rattle.lb_expand.proofs.expansion.term_emission.TermEmission.with_two.Goals as goal
 
 pub pairs-requires-clause-room : goal.pairs-requires-clause-room
@@ -81,7 +80,8 @@ returns-in_default g c =
         | inr (inl is) ↦ absurd (none.not-Arrow form.0 form.1 is)
         | inr (inr (inl is)) ↦ absurd (none.not-Fby form.0 form.1 is)
         | inr (inr (inr is)) ↦
-            sym (joined_stays from middle x c.requires.from)
+            sym (ap (λ (is : List ℕ). gives x.state is) (three_parts from middle x.found
+            c.requires.from))
             ∙ two_form from middle (with_two ctx at t) (λ xs y. gives y.state (xs ++ y.found)) x
             (join_form ctx at is)
       ];
