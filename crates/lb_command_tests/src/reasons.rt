@@ -425,7 +425,7 @@ first,0,1
 assumed undefined 1
 first assertion 0
 total 2 passed 0 fault 0 undefined 1 assertion 1 false 0
-assumed undefined 1: the assertion is nil: x -> red<<and, 2>>(true, pre (pre [x, d])) (-:3:10)
+assumed undefined 1: the assertion is nil: pre (pre [x, d]) has no value yet (-:3:35)
 first assertion 0: assert x -> red<<and, 2>>(true, pre (pre [x, d])) (-:3:3)
   3:10: `->`, its left side is taken
   1:11: x is false, an input
@@ -541,4 +541,156 @@ total 3 passed 0 fault 3 undefined 0 assertion 0 false 0
 zero fault 0: an assertion, `/` with 100, 0, in [100 / n, 1][0] < 100 (-:5:10)
 sum fault 0: an assertion, `+` with 9, 2147483640, in red<<+, 2>>(n, [2147483640, 1]) > 0 (-:6:10)
 three fault 0: what a memory keeps, `/` with 100, 0, in 0 -> pre (([100 / (n - 3), 1])[0]) (-:7:7)
+status 1
+----
+lbench --explain
+-- Nil within `#` and `nor`.
+node main(k: int; a, b: bool) returns (ok: bool);
+var few, none: bool;
+let
+  few = #(a, pre b, b);
+  none = nor(a and pre (a or b), b);
+  ok = if k = 0 then few else if k = 1 then none
+    else #(false, not nor(b, (true fby a) and true -> pre (pre a)));
+tel
+%traces
+trace,k,a,b
+few,0,1,0
+none,1,0,1
+deep,2,1,0
+deep,2,1,0
+=>
+few undefined 0
+none undefined 0
+deep undefined 1
+total 3 passed 0 fault 0 undefined 3 assertion 0 false 0
+few undefined 0: main.ok is nil: pre b has no value yet (-:5:14)
+none undefined 0: main.ok is nil: pre (a or b) has no value yet (-:6:20)
+deep undefined 1: main.ok is nil: pre (pre a) has no value yet (-:8:55)
+status 1
+----
+lbench --explain
+-- Nil within array forms.
+node main(k: int; a, b: bool) returns (ok: bool);
+var A: bool^3; M: bool^2^2;
+let
+  A = [a, b] | [pre (a and b)];
+  M = [[a, b], pre [b, a]];
+  ok = if k = 0 then A[2] else if k = 1 then ([b, a, pre b][1..2])[1]
+    else if k = 2 then ((pre b)^2)[1] else if k = 3 then (pre [a, b])[0]
+    else if k = 4 then (if a then pre A else A)[1] else if k = 5 then M[1][0]
+    else (A -> A)[2];
+tel
+%traces
+trace,k,a,b
+joined,0,1,1
+slice,1,1,1
+copies,2,1,1
+array,3,1,1
+branch,4,1,1
+matrix,5,1,1
+side,6,1,1
+=>
+joined undefined 0
+slice undefined 0
+copies undefined 0
+array undefined 0
+branch undefined 0
+matrix undefined 0
+side undefined 0
+total 7 passed 0 fault 0 undefined 7 assertion 0 false 0
+joined undefined 0: main.ok is nil: pre (a and b) has no value yet (-:5:17)
+slice undefined 0: main.ok is nil: pre b has no value yet (-:7:54)
+copies undefined 0: main.ok is nil: pre b has no value yet (-:8:26)
+array undefined 0: main.ok is nil: pre [a, b] has no value yet (-:8:59)
+branch undefined 0: main.ok is nil: pre A has no value yet (-:9:35)
+matrix undefined 0: main.ok is nil: pre [b, a] has no value yet (-:6:16)
+side undefined 0: main.ok is nil: pre (a and b) has no value yet (-:5:17)
+status 1
+----
+lbench --explain
+-- Nil within iterators, over operators and over nodes.
+node both(acc, x: bool) returns (r: bool);
+let r = acc and x; tel
+node next(acc: bool) returns (r, e: bool);
+let r = not acc; e = [acc, pre acc][1]; tel
+node main(k: int; a, b: bool) returns (ok: bool);
+var last: bool; E: bool^2;
+let
+  (last, E) = fill<<next, 2>>([a, pre a][1]);
+  ok = if k = 0 then red<<and, 2>>(true, [a, pre b])
+    else if k = 1 then (map<<or, 2>>([a, b], pre [b, a]))[1]
+    else if k = 2 then red<<both, 2>>(a, [b, pre b])
+    else if k = 3 then (map<<both, 2>>([a, b], [a, pre (not b)]))[1]
+    else if k = 4 then red<<xor, 2>>(#(a, pre a), [a, b]) else if k = 5 then E[1] else last;
+tel
+%traces
+trace,k,a,b
+red,0,1,1
+map,1,1,1
+red_node,2,1,1
+map_node,3,1,1
+first,4,1,1
+own,5,1,1
+last,6,1,1
+=>
+red undefined 0
+map undefined 0
+red_node undefined 0
+map_node undefined 0
+first undefined 0
+own undefined 0
+last undefined 0
+total 7 passed 0 fault 0 undefined 7 assertion 0 false 0
+red undefined 0: main.ok is nil: pre b has no value yet (-:10:46)
+map undefined 0: main.ok is nil: pre [b, a] has no value yet (-:11:46)
+red_node undefined 0: main.ok is nil: pre b has no value yet (-:12:46)
+map_node undefined 0: main.ok is nil: pre (not b) has no value yet (-:13:52)
+first undefined 0: main.ok is nil: pre a has no value yet (-:14:43)
+own undefined 0: main.ok is nil: pre acc has no value yet (-:5:28, in main at 9:21[1])
+last undefined 0: main.ok is nil: pre a has no value yet (-:9:35)
+status 1
+----
+lbench --explain
+-- Nil within the forms of a called node, behind the memories of other instances.
+node sum(x: int) returns (n: int);
+let n = x -> pre n + x; tel
+node pick(A: int^2; c: bool; y: int when c) returns (n: int);
+var B: int^2; z: int when c;
+let
+  z = 0 fby (y + sum(y));
+  B = (0^2) fby (A -> pre A);
+  n = ([B[0], current z] | B)[1];
+tel
+node main(x: int; c: bool) returns (ok: bool);
+let ok = #(pick([sum(x), x], c, x when c) < 0, x < 0); tel
+%traces
+trace,x,c
+slow,1,0
+=>
+slow undefined 0
+total 1 passed 0 fault 0 undefined 1 assertion 0 false 0
+slow undefined 0: main.ok is nil: current z has no value yet (-:9:15, in main at 12:12)
+status 1
+----
+lbench --explain
+-- Nil within the forms of an assertion and of a clock.
+node main(k: int; a, b: bool) returns (ok: bool);
+var on: bool; r: int when on;
+let
+  assert if k = 0 then [a, true][1] else #(pre a, b);
+  on = if k = 1 then true else nor(current (a when b), a);
+  r = k when on;
+  ok = true -> current r >= 0;
+tel
+%traces
+trace,k,a,b
+assumed,1,0,1
+clock,0,1,0
+=>
+assumed undefined 0
+clock undefined 0
+total 2 passed 0 fault 0 undefined 2 assertion 0 false 0
+assumed undefined 0: the assertion is nil: pre a has no value yet (-:5:44)
+clock undefined 0: main.on is nil: current (a when b) has no value yet (-:6:36)
 status 1";

@@ -239,7 +239,7 @@ fn deciding(moment: &Moment<'_>, cell: Cell, operation: &Operation) -> Option<El
 // ## Steps
 
 /// The first equation that gives an element.
-pub(crate) fn given_by(equations: &[Equation], element: ElementId) -> Option<&Equation>
+pub fn given_by(equations: &[Equation], element: ElementId) -> Option<&Equation>
     ensures { (clocks : List Clock) → option_map (λ q. equation_of clocks q.now) result
         ≡ spec.given_by (flat_equations clocks equations.now) element.0 }
 {

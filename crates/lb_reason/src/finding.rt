@@ -33,7 +33,7 @@ pub struct Reason<'a> {
     /// where the trace passed.
     pub steps: Vec<Step>,
     /// The instant of the steps, if there are any.
-    pub(crate) moment: Option<Moment<'a>>,
+    pub moment: Option<Moment<'a>>,
 }
 
 // Not derived, so that a caller drops it in one step.

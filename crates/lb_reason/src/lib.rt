@@ -1,19 +1,13 @@
-//! The reasons why traces do not pass.
+//! The reason why a trace does not pass, as elements of its flat program: one that decides the
+//! verdict, and behind each the one that decides it.
 #![tactic(auto)]
 
-mod arguments;
 mod deciding;
-mod expressions;
-mod faults;
 mod finding;
 mod laws;
 mod moment;
-mod page;
-mod report;
-mod scene;
-mod site;
-mod told;
 
+pub use deciding::given_by;
 pub use finding::{Reason, Step, find_reason};
 pub use laws::reasons_lead_to_where_they_arise;
-pub use report::{Explained, explain_traces};
+pub use moment::Moment;

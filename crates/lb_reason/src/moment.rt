@@ -36,13 +36,13 @@ fn replay_to<'a>(
 }
 
 /// An instant of a recorded trace.
-pub(crate) struct Moment<'a> {
+pub struct Moment<'a> {
     /// The replay after the instant.
     after: Replay<'a>,
     /// The equations, with their memories as they are before the instant.
     equations: Vec<Equation>,
     /// The number of the instant.
-    pub(crate) instant: u32,
+    pub instant: u32,
     program: &'a FlatProgram,
     ghost was: { next_in after ≡ instant + 1 },
     ghost of: { program_in after ≡ program.now },
@@ -102,7 +102,7 @@ impl<'a> Moment<'a> {
     }
 
     /// The equations, with their memories as they are before the instant.
-    pub(crate) fn equations(&self) -> &[Equation]
+    pub fn equations(&self) -> &[Equation]
         ensures { flat_equations self.now.program.now.clocks.items result.now
             ≡ equations_now self.now }
     {
@@ -110,7 +110,7 @@ impl<'a> Moment<'a> {
     }
 
     /// The cell of an element at the instant.
-    pub(crate) fn cell(&self, element: ElementId) -> Cell
+    pub fn cell(&self, element: ElementId) -> Cell
         ensures { cell_of result ≡ cell (row_now self.now) element.0 }
     {
         self.after.cell(element)

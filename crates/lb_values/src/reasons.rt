@@ -1,9 +1,9 @@
 //! Why the traces of a report do not pass.
 
 use crate::case::Case;
-use lb_reason::{Explained, explain_traces};
 use lb_report::Options;
 use lb_syntax::parse;
+use lb_telling::{Explained, explain_traces};
 use std::alloc::{AllocError, Global};
 
 /// The part of a line of a report that was read so far.

@@ -1,10 +1,8 @@
 //! The parts of a source that the elements of a reason stand for.
 
-use crate::deciding::given_by;
-use crate::finding::Step;
-use crate::moment::Moment;
 use crate::site::{Owner, Placed, Site, Subject};
 use lb_flat::{ElementId, Operation};
+use lb_reason::{Moment, Step, given_by};
 use std::alloc::{AllocError, Global};
 
 /// The most expressions that are looked at to find the one of an element.

@@ -10,13 +10,13 @@
 ghost use Rattle.std.specs.Prelude.{◌<◌, length};
 
 use crate::expressions::{is_literal, is_short, push_expression, ungrouped};
-use crate::finding::{Reason, Step, find_reason};
 use crate::page::{push_cell, push_spot};
 use crate::scene::{Known, Scene};
 use crate::site::{Placed, Site, Subject};
 use lb_check::Verdict;
 use lb_flat::{ElementId, Operation, Ordered};
 use lb_history::{Cell, Replay};
+use lb_reason::{Reason, Step, find_reason};
 use lb_show::{Page, push_verdict};
 use lb_static::Term;
 use lb_syntax::{Expr, OperatorClass};

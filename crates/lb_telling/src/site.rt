@@ -1,6 +1,7 @@
 //! The place in a source at which an element of a flat program stands.
 
 use crate::arguments::argument_in;
+use lb_check::Checked;
 use lb_flat::{ElementId, FlatProgram, Operation};
 use lb_show::{Lines, Scope, Signal, Signals, Spot};
 use lb_static::{Elab, Origin, ResolvedNode, ResolvedStatement, Term, VariableId};
@@ -17,6 +18,7 @@ pub(crate) struct Subject<'a, 's> {
     pub(crate) file: &'a str,
     pub(crate) source: &'a [u8],
     pub(crate) lines: &'a Lines,
+    pub(crate) checked: &'a Checked<'s>,
     pub(crate) elab: &'a Elab<'s>,
     pub(crate) program: &'a FlatProgram,
     pub(crate) signals: &'a Signals,
@@ -218,7 +220,7 @@ impl<'a, 's> Subject<'a, 's> {
     }
 
     /// The statement at a place of the node of an instance.
-    fn placed(&self, row: usize, place: usize) -> Option<Placed<'a>> {
+    pub(crate) fn placed(&self, row: usize, place: usize) -> Option<Placed<'a>> {
         let node = self.node(row)?;
         let tree: &'a lb_syntax::Node = node.tree;
         match (node.body.get(place)?, tree.body.get(place)?) {

@@ -37,7 +37,7 @@ fn open_list<'a>(open: &mut Vec<Site<'a>>, site: Site<'a>) -> Result<(), AllocEr
 }
 
 /// Opens the parts of an expression.
-fn open_parts<'a>(open: &mut Vec<Site<'a>>, site: Site<'a>) -> Result<(), AllocError> {
+pub(crate) fn open_parts<'a>(open: &mut Vec<Site<'a>>, site: Site<'a>) -> Result<(), AllocError> {
     for part in site.parts() {
         if let Some(part) = part {
             open.push(part)?;

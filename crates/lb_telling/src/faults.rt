@@ -104,29 +104,25 @@ impl<'p, 'a, 's> Telling<'p, 'a, 's> {
         }
     }
 
-    /// Writes what is nil: the first of the steps, and the last one, which makes it so.
+    /// Writes what is nil, the element of the first step, and what makes it so: the last one, which
+    /// is a memory.
     pub(crate) fn say_undefined(&self, page: &mut Page) {
-        let Some(first) = self.steps.first() else {
+        let (Some(first), Some(last)) = (self.steps.first(), self.steps.last()) else {
             return;
         };
-        let last = self.steps.len().saturating_sub(1);
-        match (self.known_at(0), self.known_at(last)) {
-            (known, Known::Expression(site)) => {
-                if let Known::Variable = known {
-                    self.say_name(page, first.element, None);
-                    page.push(" is nil: ");
-                } else {
-                    page.push("the assertion is nil: ");
-                }
-                self.say_expression(page, site.expr);
-                page.push(" has no value yet");
-                self.say_place(page, ungrouped(site.expr).offset(), site.row);
-            }
-            (Known::Expression(whole), _) => {
-                page.push("the assertion is nil: ");
-                self.say_placed(page, whole);
-            }
-            _ => self.say_held(page, first.element),
+        if let Known::Variable = self.known_at(0) {
+            self.say_name(page, first.element, None);
+        } else {
+            page.push("the assertion");
+        }
+        page.push(" is nil");
+        let memory = self.scene.subject.memory(self.scene.alloc, last.element);
+        page.cut_if(memory.is_err());
+        if let Ok(Some(site)) = memory {
+            page.push(": ");
+            self.say_expression(page, site.expr);
+            page.push(" has no value yet");
+            self.say_place(page, site.expr.offset(), site.row);
         }
     }
 }

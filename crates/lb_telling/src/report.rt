@@ -42,6 +42,7 @@ pub fn explain_traces(
         file,
         source,
         lines: &lines,
+        checked,
         elab: checked.elab(),
         program: &ordered.program,
         signals: &signals,
