@@ -1,8 +1,8 @@
 -- The parts of a text that is painted that contracts name.
 -- This file says what data of the program mean; no definition of the language stands on it.
 use Rattle.std.specs.Prelude.{ℕ, ◌+◌, ◌-◌}
-use Rattle.lb_show.specs.Csv.{headers_left}
-use Rattle.lb_show.specs.Players.{next_played}
+use Rattle.lb_csv.specs.Csv.{headers_left}
+use Rattle.lb_csv.specs.Players.{next_played}
 use Rattle.lb_show.specs.declared.show.Painting.{Painting}
 
 -- the number of instants that are left

@@ -6,13 +6,13 @@ use Rattle.lb_flat.specs.Correct.{IsVerdictOf}
 use Rattle.lb_flat.specs.Inputs.{inputs_of}
 use Rattle.lb_flat.specs.Judging.{FlatProgram}
 use Rattle.lb_traces.specs.Traces.{Recording, trace_at}
-use Rattle.lb_show.specs.Csv.{parts_in, rest_in}
-use Rattle.lb_show.specs.CsvTexts.{header, records}
+use Rattle.lb_csv.specs.Csv.{parts_in, rest_in}
+use Rattle.lb_csv.specs.CsvTexts.{header, records}
 use Rattle.lb_show.specs.Paintings as painted
-use Rattle.lb_show.specs.Shown.{names_of, numbers_of}
-use Rattle.lb_show.specs.Verdicts.{deciding}
-use Rattle.lb_show.specs.Windows.{end_at, first_at}
-use Rattle.lb_show.specs.declared.columns.Column.{Column}
+use Rattle.lb_csv.specs.Shown.{names_of, numbers_of}
+use Rattle.lb_csv.specs.Verdicts.{deciding}
+use Rattle.lb_csv.specs.Windows.{end_at, first_at}
+use Rattle.lb_csv.specs.declared.column.Column.{Column}
 use Rattle.lb_show.specs.declared.options.ShowOptions.{ShowOptions}
 use Rattle.lb_show.specs.declared.show.Show.{Show}
 use Rattle.lb_show.specs.declared.show.Text as code

@@ -5,22 +5,8 @@ ghost use Rattle.std.specs.Prelude.{◌≢◌, IfErr};
 use crate::error::ShowError;
 use crate::options::Selection;
 use crate::signals::{Signal, Signals};
-use lb_flat::ElementId;
-use lb_syntax::Kind;
+use lb_csv::Column;
 use std::alloc::{AllocError, Global};
-
-/// An element that is shown.
-#[derive(Drop)]
-pub(crate) struct Column {
-    /// The name of the element with that of its instance: `main.A[0]`.
-    pub(crate) name: String,
-    /// The name of the element in its instance: `A[0]`.
-    pub(crate) label: String,
-    /// The place of the instance among the scopes.
-    pub(crate) scope: usize,
-    pub(crate) kind: Kind,
-    pub(crate) element: ElementId,
-}
 
 impl Signal {
     /// Whether `name` is the name of the element, or of its variable.

@@ -2,20 +2,18 @@
 #![tactic(auto)]
 
 mod columns;
-mod csv;
 mod error;
 mod lines;
 mod marks;
 mod options;
 mod page;
-mod player;
 mod show;
 mod signals;
 mod svg;
 mod table;
 mod vcd;
 mod verdict_line;
-mod write;
+mod widths;
 
 pub use error::ShowError;
 pub use lines::{Lines, Spot};

@@ -1,8 +1,8 @@
 //! The data of what is painted, and the cells that decide the verdict.
 
-use crate::columns::Column;
 use crate::signals::Signals;
 use lb_check::Verdict;
+use lb_csv::Column;
 use lb_flat::{ElementId, FlatProgram};
 use lb_history::Cell;
 

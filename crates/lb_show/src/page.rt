@@ -1,6 +1,6 @@
 //! The page to which a text is written.
 
-use crate::write::{CHUNK, push, push_cell, push_integer, push_number};
+use lb_csv::{CHUNK, push, push_cell, push_integer, push_number};
 use lb_history::Cell;
 use std::alloc::AllocError;
 

@@ -1,63 +1,23 @@
 //! The values of one recorded trace, part by part.
 
-ghost use Rattle.std.specs.Prelude.{◌≡◌, ◌≢◌, ◌<◌, ◌≤◌, ℕ, length, IfSome, IfNone};
+ghost use Rattle.std.specs.Prelude.{◌≡◌, ◌≢◌, ◌<◌, ◌≤◌, ℕ, length, IfSome};
 ghost use Rattle.lb_traces.specs.Traces.{trace_at};
-ghost use Rattle.lb_show.specs.Windows.{end_at, first_at};
 
-use crate::columns::Column;
-use crate::csv::CsvText;
 use crate::error::ShowError;
 use crate::marks::{Marks, Shown};
 use crate::options::{Format, ShowOptions};
 use crate::page::Page;
-use crate::player::Player;
 use crate::signals::{Signals, signals_of};
 use crate::svg::{MOST_INSTANTS, Picture};
 use crate::table::{Block, push_title};
 use crate::vcd::Dump;
-use crate::verdict_line::deciding;
 use lb_check::{Checked, Verdict};
+use lb_csv::{Column, CsvText, Player, deciding, end_at, first_at, trace_named};
 use lb_flat::{FlatProgram, Ordered, eval_trace};
 use lb_history::Cell;
 use lb_traces::TraceSet;
 use std::alloc::{AllocError, Global};
 use std::mem::replace;
-
-/// The number of the trace with a name.
-fn trace_named(set: &TraceSet, name: &str) -> Option<u32>
-    ensures within { IfSome result (λ k. k < length set.now.traces) }
-    ensures named { IfSome result (λ k. (trace_at set.now.traces k).0 ≡ name.now) }
-    ensures none { IfNone result ((k : ℕ) → k < length set.now.traces →
-        (trace_at set.now.traces k).0 ≢ name.now) }
-{
-    for k in 0..set.len() {
-        if set.name(k) == name {
-            return Some(k);
-        }
-    }
-    None
-}
-
-/// The instant behind the last one that is shown, of a trace of `count` instants.
-fn end_at(decides: Option<u32>, count: u32) -> u32
-    ensures { result ≡ end_at decides count }
-{
-    match decides {
-        Some(t) if t < count => t + 1,
-        _ => count,
-    }
-}
-
-/// The first instant that is shown, where only the `last` instants before `end` are.
-fn first_at(last: Option<u32>, end: u32) -> u32
-    ensures value { result ≡ first_at last end }
-    ensures before { result ≤ end }
-{
-    match last {
-        Some(last) => end.saturating_sub(last),
-        None => 0,
-    }
-}
 
 /// A painter, which takes the instants that are shown, one after another.
 #[derive(Drop)]
@@ -140,7 +100,7 @@ struct Painting<'a> {
 
 impl<'a> Painting<'a> {
     ghost use Rattle.std.specs.Prelude.{◌+◌, true, false, Ok};
-    ghost use Rattle.lb_show.specs.Players.{next_played};
+    ghost use Rattle.lb_csv.specs.Players.{next_played};
     ghost use Rattle.lb_show.specs.Paintings.{instants_left, parts_left};
 
     /// Paints the next instant.
@@ -272,9 +232,9 @@ fn painter_of(alloc: Global, format: Format, last: Vec<Cell>) -> Option<Painter>
 
 impl<'a> Show<'a> {
     ghost use Rattle.std.specs.Prelude.{◌++◌, ◌-◌, true, false, [], Ok, Err, IfOk, OnOk};
-    ghost use Rattle.lb_show.specs.CsvTexts.{header, records};
-    ghost use Rattle.lb_show.specs.Players.{inputs_played, next_played, program_played};
-    ghost use Rattle.lb_show.specs.Shown.{names_of, numbers_of};
+    ghost use Rattle.lb_csv.specs.CsvTexts.{header, records};
+    ghost use Rattle.lb_csv.specs.Players.{inputs_played, next_played, program_played};
+    ghost use Rattle.lb_csv.specs.Shown.{names_of, numbers_of};
     ghost use Rattle.lb_flat.specs.Programs.{program_of};
     ghost use Rattle.lb_show.specs.Shows.{IsCsvOf, csv_rest, is_csv, parts_left};
 

@@ -3,11 +3,11 @@
 //! The row of an element has a gap where it is absent; nil is hatched, and the value of a fault is
 //! red. A band marks the instant that decides.
 
-use crate::columns::Column;
 use crate::marks::Shown;
 use crate::page::Page;
-use crate::verdict_line::{deciding, push_verdict};
-use crate::write::digits;
+use crate::verdict_line::push_verdict;
+use crate::widths::digits;
+use lb_csv::{Column, deciding};
 use lb_history::Cell;
 use lb_syntax::Kind;
 use std::alloc::Global;

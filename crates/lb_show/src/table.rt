@@ -15,8 +15,9 @@
 
 use crate::marks::Shown;
 use crate::page::Page;
-use crate::verdict_line::{deciding, push_verdict};
-use crate::write::digits;
+use crate::verdict_line::push_verdict;
+use crate::widths::digits;
+use lb_csv::deciding;
 use lb_history::Cell;
 use std::alloc::Global;
 

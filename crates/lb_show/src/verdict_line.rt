@@ -1,21 +1,8 @@
-//! The line of a verdict, and the instants up to it.
-
-ghost use Rattle.std.specs.Prelude.{◌≡◌};
-ghost use Rattle.lb_show.specs.Verdicts.{deciding};
+//! The line of a verdict.
 
 use crate::page::Page;
 use lb_check::Verdict;
-
-/// The instant that decides a verdict, if one does.
-pub(crate) fn deciding(verdict: Verdict) -> Option<u32>
-    ensures { result ≡ deciding verdict }
-{
-    match verdict {
-        Verdict::Passed => None,
-        Verdict::Fault(t) | Verdict::Undefined(t) | Verdict::Assertion(t) | Verdict::False(t) =>
-            Some(t),
-    }
-}
+use lb_csv::deciding;
 
 /// Adds the name of a trace and its verdict, as its line of a report has them.
 pub fn push_verdict(page: &mut Page, name: &str, verdict: Verdict) {

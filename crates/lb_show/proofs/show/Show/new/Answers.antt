@@ -2,11 +2,11 @@ use Rattle.std.proofs.Common.{◌≡◌, ◌∙◌, ℕ, ap, ap₂, length}
 use Rattle.lb_flat.specs.Inputs.{inputs_of}
 use Rattle.lb_flat.specs.Programs.{program_of}
 use Rattle.lb_traces.specs.Traces.{trace_at}
-use Rattle.lb_show.specs.Players.{inputs_played, next_played, program_played}
-use Rattle.lb_show.specs.Shown.{names_of, numbers_of}
-use Rattle.lb_show.specs.Verdicts.{deciding}
-use Rattle.lb_show.specs.Windows.{end_at, first_at}
-use Rattle.lb_show.proofs.Records.{spelled_by}
+use Rattle.lb_csv.specs.Players.{inputs_played, next_played, program_played}
+use Rattle.lb_csv.specs.Shown.{names_of, numbers_of}
+use Rattle.lb_csv.specs.Verdicts.{deciding}
+use Rattle.lb_csv.specs.Windows.{end_at, first_at}
+use Rattle.lb_csv.proofs.Records.{spelled_by}
 use Rattle.lb_show.proofs.show.Show.new.Goals as goal
 
 pub returns-in-None-clause-csv : goal.returns-in-None-clause-csv

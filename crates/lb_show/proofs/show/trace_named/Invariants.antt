@@ -1,6 +1,0 @@
-use Rattle.std.proofs.Common.{ℕ, ◌<◌, ◌≢◌}
-use Rattle.lb_traces.specs.Traces.{trace_at}
-use Rattle.lb_show.proofs.show.trace_named.Given as goal
-
-abbrev pub invariant-loop-k : goal.invariant-loop-k
-invariant-loop-k l = (j : ℕ) → j < l.k → (trace_at l.set.traces j).0 ≢ l.name

@@ -1,4 +1,0 @@
-use Rattle.lb_show.proofs.write.digits.Given as goal
-
-abbrev pub decreases-digits : goal.decreases-digits
-decreases-digits l = l.rest
