@@ -11,10 +11,10 @@ use Rattle.std.proofs.lemmas.List.Elements.{Contains-append_left, Contains-appen
 use Rattle.std.proofs.lemmas.List.Elements.{Contains-append_cases}
 use Rattle.std.proofs.lemmas.List.FromFn.{length-range_with_len, get_or-range_with_len}
 use Rattle.std.proofs.lemmas.List.Sorted.{All-permutation, Contains-permutation}
-use Rattle.lb_pool.specs.Draws.{times, once_below, AreAllBelow}
-use Rattle.lb_pool.specs.Plans.{numbers_in, IsLawful}
+use Rattle.lb_plan.specs.Plans.{numbers_in, IsLawful}
+use Rattle.lb_board.specs.Draws.{times, once_below, AreAllBelow}
+use Rattle.lb_board.proofs.Claiming.{times_append}
 use Rattle.lb_pool.specs.Runs.{numbers_drawn}
-use Rattle.lb_pool.proofs.Claiming.{times_append}
 
 -- ## All numbers are those of traces
 

@@ -6,11 +6,11 @@ use Rattle.std.proofs.lemmas.List.Elements.{All-append}
 use Rattle.std.specs.Prelude.{[], get_or}
 use Rattle.lb_traces.specs.Traces.{Recording}
 use Rattle.lb_flat.specs.declared.program.FlatProgram.{FlatProgram}
+use Rattle.lb_board.specs.Seats.{shares_of, told_of, drawn_of}
+use Rattle.lb_board.specs.declared.board.ClaimBoard.{ClaimBoard}
 use Rattle.lb_pool.specs.Runs.{IsJudgedTrace, AreJudged, numbers_of, numbers_drawn}
-use Rattle.lb_pool.specs.Seats.{shares_of, told_of, drawn_of}
 use Rattle.lb_pool.specs.Workers.{HasDrained, IsBoth}
 use Rattle.lb_pool.specs.declared.batch.Judged.{Judged}
-use Rattle.lb_pool.specs.declared.board.ClaimBoard.{ClaimBoard}
 use Rattle.lb_pool.specs.declared.claims.Drained.{Drained}
 
 pub gathered :

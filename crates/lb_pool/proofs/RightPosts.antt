@@ -8,10 +8,10 @@ use Rattle.lb_flat.specs.declared.flat.Ordered.{Ordered}
 use Rattle.lb_flat.specs.declared.program.FlatProgram.{FlatProgram}
 use Rattle.lb_flat.proofs.solutions.StandingRuns.{length-right_verdicts, ordered_ready}
 use Rattle.lb_flat.proofs.solutions.StandingRuns.{right_verdicts_are}
+use Rattle.lb_board.specs.FollowSeats.{right_of}
+use Rattle.lb_board.specs.declared.follow_board.FollowBoard.{FollowBoard}
 use Rattle.lb_pool.specs.Correct.{AreVerdicts}
-use Rattle.lb_pool.specs.FollowSeats.{right_of}
 use Rattle.lb_pool.specs.FollowWorkers.{IsBoardFor}
-use Rattle.lb_pool.specs.declared.follow_board.FollowBoard.{FollowBoard}
 
 -- a board has a verdict for each trace
 pub length-right_of : (p : FlatProgram) (r : Recording) (batches : List (List ℕ))

@@ -9,8 +9,8 @@ use Rattle.lb_flat.specs.Standing.{HasKindsOf, StandsForProgram}
 use Rattle.lb_traces.specs.Traces.{Recording}
 use Rattle.lb_flat.specs.declared.program.FlatProgram.{FlatProgram}
 use Rattle.lb_flat.proofs.solutions.StandingRuns.{right_verdict_at}
+use Rattle.lb_board.specs.Settlements.{IsRight}
 use Rattle.lb_pool.specs.Correct.{IsVerdict}
-use Rattle.lb_pool.specs.Settlements.{IsRight}
 
 -- the verdict of a trace is the one that a board has for it
 pub right_to_post :

@@ -8,7 +8,7 @@ use Rattle.std.proofs.lemmas.List.Elements.{All-nil, All-append}
 use Rattle.std.proofs.lemmas.List.FromFn.{length-range_with_len, get_or-range_with_len}
 use Rattle.lb_traces.specs.Traces.{Recording}
 use Rattle.lb_flat.specs.declared.program.FlatProgram.{FlatProgram}
-use Rattle.lb_pool.specs.Plans.{numbers_in, IsLawful}
+use Rattle.lb_plan.specs.Plans.{numbers_in, IsLawful}
 use Rattle.lb_pool.specs.Runs.{IsJudgedTrace, AreJudged, IsBatchOf, numbers_of, numbers_drawn}
 use Rattle.lb_pool.specs.declared.batch.Judged.{Judged}
 use Rattle.lb_pool.proofs.Covering.{covered_by}

@@ -9,12 +9,12 @@ use Rattle.lb_flat.specs.Programs.{program_of}
 use Rattle.lb_traces.specs.Traces.{Recording}
 use Rattle.lb_flat.specs.declared.program.FlatProgram.{FlatProgram}
 use Rattle.lb_sim.specs.Correct.{HasVerdict, TakesVerdicts}
-use Rattle.lb_pool.specs.FollowSeats.{IsFollowSeatOf, posts_of, right_of}
+use Rattle.lb_board.specs.FollowSeats.{IsFollowSeatOf, posts_of, right_of}
+use Rattle.lb_board.specs.Settlements.{Settlement, and_one}
+use Rattle.lb_board.specs.declared.follow_board.FollowBoard.{FollowBoard}
+use Rattle.lb_board.specs.declared.follow_board.FollowSeat.{FollowSeat}
 use Rattle.lb_pool.specs.FollowWorkers.{IsBoardFor}
 use Rattle.lb_pool.specs.Postings.{HasPosted, IsPostedWith, MayPost}
-use Rattle.lb_pool.specs.Settlements.{Settlement, and_one}
-use Rattle.lb_pool.specs.declared.follow_board.FollowBoard.{FollowBoard}
-use Rattle.lb_pool.specs.declared.follow_board.FollowSeat.{FollowSeat}
 use Rattle.lb_pool.proofs.RightPosts.{are_on_board}
 use Rattle.lb_pool.proofs.RightTraces.{right_to_post}
 

@@ -6,8 +6,8 @@ use Rattle.lb_flat.specs.RightVerdicts.{right_verdicts}
 use Rattle.lb_flat.specs.Standing.{HasKindsOf, StandsForProgram}
 use Rattle.lb_traces.specs.Traces.{Recording}
 use Rattle.lb_flat.specs.declared.program.FlatProgram.{FlatProgram}
-use Rattle.lb_pool.specs.FollowSeats.{batches_of, right_of}
-use Rattle.lb_pool.specs.declared.follow_board.FollowBoard.{FollowBoard}
+use Rattle.lb_board.specs.FollowSeats.{batches_of, right_of}
+use Rattle.lb_board.specs.declared.follow_board.FollowBoard.{FollowBoard}
 
 -- a board has these batches, and the right verdicts of these traces by a flat program; the flat
 -- program stands for a program, and reads traces of these kinds

@@ -1,10 +1,10 @@
 -- Laws of `StaysPosting` and `MayPost`, for a worker that posts verdicts.
 use Rattle.std.proofs.Common.{◌∙◌, ℕ, List, refl, subst, sym}
 use Rattle.lb_check.specs.declared.verdict.Verdict.{Verdict}
-use Rattle.lb_pool.specs.FollowSeats.{IsFollowSeatOf}
+use Rattle.lb_board.specs.FollowSeats.{IsFollowSeatOf}
+use Rattle.lb_board.specs.declared.follow_board.FollowBoard.{FollowBoard}
+use Rattle.lb_board.specs.declared.follow_board.FollowSeat.{FollowSeat}
 use Rattle.lb_pool.specs.Postings.{MayPost, StaysPosting}
-use Rattle.lb_pool.specs.declared.follow_board.FollowBoard.{FollowBoard}
-use Rattle.lb_pool.specs.declared.follow_board.FollowSeat.{FollowSeat}
 
 pub stays_itself : (b : FollowBoard) (members : List ℕ) (s : FollowSeat)
     → StaysPosting b b members members s s

@@ -3,10 +3,10 @@
 use Rattle.std.specs.Prelude.{◌≡◌, ℕ, ◌<◌, List, length, get_or, Option, Some}
 use Rattle.std.specs.List.{Contains}
 use Rattle.lb_check.specs.declared.verdict.Verdict.{Verdict}
-use Rattle.lb_pool.specs.FollowSeats.{IsFollowSeatOf, HasSameDraws, right_of, posts_of}
-use Rattle.lb_pool.specs.Settlements.{IsRight}
-use Rattle.lb_pool.specs.declared.follow_board.FollowBoard.{FollowBoard}
-use Rattle.lb_pool.specs.declared.follow_board.FollowSeat.{FollowSeat}
+use Rattle.lb_board.specs.FollowSeats.{IsFollowSeatOf, HasSameDraws, right_of, posts_of}
+use Rattle.lb_board.specs.Settlements.{IsRight}
+use Rattle.lb_board.specs.declared.follow_board.FollowBoard.{FollowBoard}
+use Rattle.lb_board.specs.declared.follow_board.FollowSeat.{FollowSeat}
 
 -- trace k was posted with a seat, with its verdict or as failed
 pub record IsPostedWith (s : FollowSeat) (k : ℕ) : Type 0 where

@@ -3,9 +3,9 @@
 use Rattle.std.specs.Prelude.{◌≡◌, ℕ, ◌+◌, ◌||◌, ◌++◌, true, List, min}
 use Rattle.lb_traces.specs.Traces.{Recording}
 use Rattle.lb_flat.specs.declared.program.FlatProgram.{FlatProgram}
+use Rattle.lb_board.specs.Seats.{IsSeatOf, shares_of, told_of, drawn_of}
+use Rattle.lb_board.specs.declared.board.ClaimBoard.{ClaimBoard}
 use Rattle.lb_pool.specs.Runs.{AreJudged, numbers_of, numbers_drawn}
-use Rattle.lb_pool.specs.Seats.{IsSeatOf, shares_of, told_of, drawn_of}
-use Rattle.lb_pool.specs.declared.board.ClaimBoard.{ClaimBoard}
 use Rattle.lb_pool.specs.declared.claims.Drained.{Drained}
 
 -- the result of a worker: the seat has its shares, and was told that no batch is left; there is a

@@ -1,13 +1,13 @@
 //! A worker that runs all traces of one set, and then all traces of the next.
 
 ghost use Rattle.std.specs.Prelude.{◌≡◌, ◌<◌, ◌≤◌, [], length, All, IfOk, OnOk};
+ghost use Rattle.lb_sim.specs.BatchRooms.{IsRoomFor};
 ghost use Rattle.lb_pool.specs.Correct.{AreVerdicts};
 ghost use Rattle.lb_pool.specs.Runs.{numbers_of, AreJudged};
-ghost use Rattle.lb_sim.specs.BatchRooms.{IsRoomFor};
 
 use crate::batch::{Judged, Work, room_for, run_members, verdicts_of};
-use crate::plan::Plan;
 use lb_check::Verdict;
+use lb_plan::Plan;
 use lb_sim::{BatchRoom, LaneProgram};
 use lb_traces::TraceSet;
 use std::alloc::{AllocError, Global};

@@ -4,14 +4,14 @@
 ghost use Rattle.std.specs.Prelude.{◌≡◌, ℕ, ◌<◌, ◌≤◌, ◌++◌, [], length, get_or, All, Contains};
 ghost use Rattle.std.specs.Prelude.{IfOk, OnOk};
 ghost use Rattle.lb_flat.specs.Programs.{program_of};
-ghost use Rattle.lb_pool.specs.Plans.{numbers_in};
-ghost use Rattle.lb_pool.specs.Correct.{AreVerdicts};
-ghost use Rattle.lb_pool.specs.Runs.{numbers_of, placed, AreJudged};
 ghost use Rattle.lb_sim.specs.BatchRooms.{IsRoomFor};
 ghost use Rattle.lb_sim.specs.Correct.{HaveVerdicts};
+ghost use Rattle.lb_plan.specs.Plans.{numbers_in};
+ghost use Rattle.lb_pool.specs.Correct.{AreVerdicts};
+ghost use Rattle.lb_pool.specs.Runs.{numbers_of, placed, AreJudged};
 
-use crate::plan::Plan;
 use lb_check::Verdict;
+use lb_plan::Plan;
 use lb_sim::{BatchRoom, LaneProgram, run_queue_in};
 use lb_traces::TraceSet;
 use std::alloc::{AllocError, Global};

@@ -5,18 +5,18 @@ ghost use Rattle.std.specs.Prelude.{IfOk, OnOk};
 ghost use Rattle.std.specs.Thread.{IsSync};
 ghost use Rattle.lb_traces.specs.Traces.{Recording};
 ghost use Rattle.lb_flat.specs.declared.program.FlatProgram.{FlatProgram};
-ghost use Rattle.lb_pool.specs.Plans.{numbers_in};
+ghost use Rattle.lb_plan.specs.Plans.{numbers_in};
+ghost use Rattle.lb_board.specs.Seats.{limit_of, IsSeatOf, shares_of, drawn_of};
 ghost use Rattle.lb_pool.specs.Correct.{AreVerdicts};
 ghost use Rattle.lb_pool.specs.Runs.{AreDrawnAfter};
-ghost use Rattle.lb_pool.specs.Seats.{limit_of, IsSeatOf, shares_of, drawn_of};
 ghost use Rattle.lb_pool.specs.Workers.{HasDrained, IsBoth};
 
 use crate::batch::{Judged, Work, room_for, run_members, verdicts_of};
-use crate::board::{ClaimBoard, ClaimSeat};
 use crate::gate::Gate;
-use crate::plan::Plan;
+use lb_board::{ClaimBoard, ClaimSeat};
 use lb_check::Verdict;
 use lb_flat::Ordered;
+use lb_plan::Plan;
 use lb_sim::{BatchRoom, LaneProgram, compile};
 use lb_traces::TraceSet;
 use std::alloc::{AllocError, Global};
@@ -259,8 +259,8 @@ fn divide<R: Threads + Sync, W: Worker + Sync>(
     both_drained(board, one?, other?)
 }
 
-/// [`run_claims`] by a program that is compiled already, for those who run many sets by it. There are
-/// no more workers than batches.
+/// [`run_claims`] by a program that is compiled already, for those who run many sets by it. There
+/// are no more workers than batches.
 pub fn run_workers<'a, 'p, R: Threads + Sync, G: Gate + Sync>(
     rt: &R,
     alloc: Global,

@@ -1,14 +1,14 @@
 //! The workers of a live report: they draw batches, and post each trace once its verdict is known.
 
 ghost use Rattle.std.specs.Prelude.{◌≡◌, ◌<◌, length, get_or, All, []};
-ghost use Rattle.lb_pool.specs.FollowSeats.{IsFollowSeatOf, HasSameDraws, right_of};
+ghost use Rattle.lb_sim.specs.BatchRooms.{IsRoomFor};
+ghost use Rattle.lb_board.specs.FollowSeats.{IsFollowSeatOf, HasSameDraws, right_of};
 ghost use Rattle.lb_pool.specs.FollowWorkers.{IsBoardFor};
 ghost use Rattle.lb_pool.specs.Postings.{IsPostedWith};
-ghost use Rattle.lb_sim.specs.BatchRooms.{IsRoomFor};
 
 use crate::batch::{Work, room_for};
-use crate::follow_board::{FollowBoard, FollowSeat};
 use crate::gate::Gate;
+use lb_board::{FollowBoard, FollowSeat};
 use lb_check::Verdict;
 use lb_sim::{BatchRoom, Verdicts, run_queue_to};
 use std::alloc::Global;
@@ -138,7 +138,7 @@ fn drain_board<G: Gate>(
 /// The work of each worker with its seat. The functions that start workers are generic over it, so
 /// that their types name no lifetime.
 pub(crate) trait FollowWorker {
-    ghost use Rattle.lb_pool.specs.declared.follow_board.FollowSeat.{FollowSeat};
+    ghost use Rattle.lb_board.specs.declared.follow_board.FollowSeat.{FollowSeat};
 
     /// The seats that the worker can take.
     ghost takes: { Self → FollowSeat → Type 0 };

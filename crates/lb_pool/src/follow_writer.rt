@@ -8,15 +8,13 @@ ghost use Rattle.std.specs.Prelude.{◌≡◌, ◌<◌, ◌≤◌, ◌+◌, ◌*
 ghost use Rattle.std.specs.Prelude.{IfErr, IfOk, IfSome, OnOk, get_or, length, vec_len};
 ghost use Rattle.lb_check.specs.declared.verdict.Verdict.TheVariants.{Passed};
 ghost use Rattle.lb_traces.specs.Traces.{trace_names};
-ghost use Rattle.lb_pool.specs.FollowSeats.{IsFollowSeatOf, right_of};
-ghost use Rattle.lb_pool.specs.Follows.{Goes, HasCause, IsFollowed, sent_of};
-ghost use Rattle.lb_pool.specs.Reports as spec;
+ghost use Rattle.lb_board.specs.FollowSeats.{IsFollowSeatOf, right_of};
+ghost use Rattle.lb_output.specs.Follows.{Goes, HasCause, IsFollowed, sent_of};
+ghost use Rattle.lb_output.specs.Reports as spec;
 
-use crate::follow_board::{FollowBoard, FollowSeat, Look};
-use crate::follow_error::FollowError;
-use crate::outgoing::{Outgoing, send_all, send_chunk};
-use crate::sink::Sink;
+use lb_board::{FollowBoard, FollowSeat, Look};
 use lb_check::Verdict;
+use lb_output::{FollowError, Outgoing, Sink, send_all, send_chunk};
 use lb_traces::TraceSet;
 use std::alloc::Global;
 use std::sync::Wait;

@@ -2,14 +2,14 @@
 
 ghost use Rattle.std.specs.Prelude.{◌≡◌, ◌<◌, length, flat_map, IfOk};
 ghost use Rattle.std.specs.List.{AllZip, range_with_len};
-ghost use Rattle.lb_pool.specs.Plans.{numbers_in};
+ghost use Rattle.lb_plan.specs.Plans.{numbers_in};
 ghost use Rattle.lb_pool.specs.Correct.{AreVerdicts};
 ghost use Rattle.lb_pool.specs.Runs.{IsBatchOf};
 
 use crate::batch::{Judged, Work, room_for, run_members, verdicts_of};
-use crate::plan::Plan;
 use lb_check::Verdict;
 use lb_flat::Ordered;
+use lb_plan::Plan;
 use lb_sim::{BatchRoom, LaneProgram, compile};
 use lb_traces::TraceSet;
 use rayon::prelude::*;

@@ -1,6 +1,6 @@
 use Rattle.std.proofs.Common.{◌≡◌, ◌-◌, ◌≤◌, length, take}
-use Rattle.lb_pool.specs.Runs.{AreJudged, numbers_of}
 use Rattle.lb_sim.specs.BatchRooms.{IsRoomFor}
+use Rattle.lb_pool.specs.Runs.{AreJudged, numbers_of}
 use Rattle.lb_pool.proofs.alone.run_queues.Given as goal
 
 -- the first `done` traces are judged

@@ -1,7 +1,7 @@
 -- The results of two halves, put together.
 use Rattle.std.proofs.Common.{◌≡◌, ◌+◌, min, arith}
 use Rattle.std.proofs.lemmas.Result.{IfOk-at_ok, IfOk-weaker}
-use Rattle.lb_pool.specs.Seats.{shares_of}
+use Rattle.lb_board.specs.Seats.{shares_of}
 use Rattle.lb_pool.specs.Workers.{HasDrained, IsBoth}
 use Rattle.lb_pool.proofs.Gathering.{gathered}
 use Rattle.lb_pool.proofs.claims.+divide+fn-divide-join+arg2+fn-divide-join+arg3.Goals as goal

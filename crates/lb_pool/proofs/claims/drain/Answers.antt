@@ -1,8 +1,8 @@
 -- The verdicts of all batches that were drawn are added. At the end the worker was told that none
 -- is left.
 use Rattle.std.proofs.Common.{List, ℕ, length, ap, ◌∙◌, ◌++◌, length-append, arith, rules}
+use Rattle.lb_board.specs.Seats.{drawn_of}
 use Rattle.lb_pool.specs.Runs.{numbers_of}
-use Rattle.lb_pool.specs.Seats.{drawn_of}
 use Rattle.lb_pool.proofs.Drawing.{judged_further}
 use Rattle.lb_pool.proofs.claims.drain.Goals as goal
 

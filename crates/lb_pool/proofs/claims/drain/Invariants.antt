@@ -1,6 +1,6 @@
 use Rattle.std.proofs.Common.{◌≡◌, ◌-◌, length}
+use Rattle.lb_board.specs.Seats.{IsSeatOf, limit_of, shares_of, drawn_of}
 use Rattle.lb_pool.specs.Runs.{AreJudged, numbers_of, numbers_drawn}
-use Rattle.lb_pool.specs.Seats.{IsSeatOf, limit_of, shares_of, drawn_of}
 use Rattle.lb_pool.proofs.claims.drain.Given as goal
 
 abbrev pub invariant-loop-i : goal.invariant-loop-i

@@ -1,7 +1,7 @@
 use Rattle.std.proofs.Common.{◌≡◌, ℕ, ◌*◌, ◌<◌, ◌≤◌, [], List, length, get_or}
 use Rattle.std.specs.Prelude.{All}
+use Rattle.lb_board.specs.Seats.{IsSeatOf, shares_of, drawn_of}
 use Rattle.lb_pool.specs.Runs.{AreDrawnAfter}
-use Rattle.lb_pool.specs.Seats.{IsSeatOf, shares_of, drawn_of}
 use Rattle.lb_pool.proofs.claims.draw.Given as goal
 
 abbrev pub invariant-loop : goal.invariant-loop

@@ -1,9 +1,9 @@
 -- All batches were drawn, so each trace has been judged.
 use Rattle.std.proofs.Common.{ℕ, List, length, sym, ap, ◌∙◌, subst}
 use Rattle.std.specs.List.{Contains}
-use Rattle.lb_pool.specs.Draws.{AreAllBelow}
+use Rattle.lb_board.specs.Draws.{AreAllBelow}
+use Rattle.lb_board.specs.Seats.{drawn_of}
 use Rattle.lb_pool.specs.Runs.{numbers_of}
-use Rattle.lb_pool.specs.Seats.{drawn_of}
 use Rattle.lb_pool.proofs.Covering.{covered}
 use Rattle.lb_pool.proofs.claims.run_workers.Goals as goal
 

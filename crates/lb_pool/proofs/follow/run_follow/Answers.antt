@@ -5,12 +5,13 @@ use Rattle.lb_flat.specs.Programs.{program_of}
 use Rattle.lb_flat.specs.RightVerdicts.{right_verdicts}
 use Rattle.lb_traces.specs.Traces.{Recording, trace_names}
 use Rattle.lb_flat.specs.declared.program.FlatProgram.{FlatProgram}
-use Rattle.lb_pool.specs.FollowSeats.{right_of}
+use Rattle.lb_board.specs.FollowSeats.{right_of}
+use Rattle.lb_output.specs.Follows.{IsFollowed}
+use Rattle.lb_output.specs.Reports.{report_of}
+use Rattle.lb_output.specs.Taken.{Taken}
+use Rattle.lb_output.specs.declared.follow_error.FollowError.{FollowError}
 use Rattle.lb_pool.specs.FollowWorkers.{IsBoardFor}
-use Rattle.lb_pool.specs.Follows.{IsFollowed, right_report}
-use Rattle.lb_pool.specs.Reports.{report_of}
-use Rattle.lb_pool.specs.Taken.{Taken}
-use Rattle.lb_pool.specs.declared.follow_error.FollowError.{FollowError}
+use Rattle.lb_pool.specs.RightReports.{right_report}
 use Rattle.lb_pool.proofs.RightPosts.{right_verdicts_of}
 use Rattle.lb_pool.proofs.follow.run_follow.Goals as goal
 

@@ -1,5 +1,5 @@
 use Rattle.std.specs.Prelude.{All}
-use Rattle.lb_pool.specs.FollowSeats.{IsFollowSeatOf}
+use Rattle.lb_board.specs.FollowSeats.{IsFollowSeatOf}
 use Rattle.lb_pool.proofs.follow.worker_seats.Given as goal
 
 abbrev pub invariant-loop-left : goal.invariant-loop-left

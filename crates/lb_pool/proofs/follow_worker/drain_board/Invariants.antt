@@ -1,5 +1,5 @@
 use Rattle.std.proofs.Common.{◌-◌, length}
-use Rattle.lb_pool.specs.FollowSeats.{IsFollowSeatOf, batches_of, drawn_of}
+use Rattle.lb_board.specs.FollowSeats.{IsFollowSeatOf, batches_of, drawn_of}
 use Rattle.lb_pool.proofs.follow_worker.drain_board.Given as goal
 
 abbrev pub invariant-loop-i : goal.invariant-loop-i

@@ -1,6 +1,6 @@
 use Rattle.std.proofs.Common.{take}
 use Rattle.std.specs.List.{All}
-use Rattle.lb_pool.specs.FollowSeats.{IsFollowSeatOf, HasSameDraws}
+use Rattle.lb_board.specs.FollowSeats.{IsFollowSeatOf, HasSameDraws}
 use Rattle.lb_pool.specs.Postings.{IsPostedWith}
 use Rattle.lb_pool.proofs.follow_worker.post_failed.Given as goal
 

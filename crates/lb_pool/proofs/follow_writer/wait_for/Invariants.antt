@@ -1,4 +1,4 @@
-use Rattle.lb_pool.specs.FollowSeats.{IsFollowSeatOf}
+use Rattle.lb_board.specs.FollowSeats.{IsFollowSeatOf}
 use Rattle.lb_pool.proofs.follow_writer.wait_for.Given as goal
 
 abbrev pub invariant-loop : goal.invariant-loop

@@ -5,12 +5,12 @@ use Rattle.lb_check.specs.declared.verdict.Verdict.{Verdict}
 use Rattle.std.proofs.lemmas.List.{get_or-map, length-map, take_more}
 use Rattle.lb_check.specs.declared.verdict.Verdict.TheVariants.{Passed}
 use Rattle.lb_traces.specs.Traces.{Trace, trace_names}
-use Rattle.lb_pool.specs.FollowSeats.{right_of}
-use Rattle.lb_pool.specs.Follows.{Goes, sent_of}
-use Rattle.lb_pool.specs.Reports.{lines, report_of}
-use Rattle.lb_pool.specs.Taken.{Taken}
-use Rattle.lb_pool.proofs.GoingOut.{goes_length, goes_on, one_more, passes_on, stops_behind}
-use Rattle.lb_pool.proofs.SinkBytes.{takes_no_byte}
+use Rattle.lb_board.specs.FollowSeats.{right_of}
+use Rattle.lb_output.specs.Follows.{Goes, sent_of}
+use Rattle.lb_output.specs.Reports.{lines, report_of}
+use Rattle.lb_output.specs.Taken.{Taken}
+use Rattle.lb_output.proofs.GoingOut.{goes_length, goes_on, one_more, passes_on, stops_behind}
+use Rattle.lb_output.proofs.SinkBytes.{takes_no_byte}
 use Rattle.lb_pool.proofs.follow_writer.write_lines.Goals as goal
 
 lines_of_none : (names : List (List ℕ)) → lines names [] ≡ []

@@ -1,8 +1,8 @@
 use Rattle.std.proofs.Common.{◌≡◌, ◌≤◌, ◌+◌, ◌*◌, length, take}
 use Rattle.lb_traces.specs.Traces.{trace_names}
-use Rattle.lb_pool.specs.FollowSeats.{IsFollowSeatOf, right_of}
-use Rattle.lb_pool.specs.Follows.{Goes}
-use Rattle.lb_pool.specs.Reports.{lines}
+use Rattle.lb_board.specs.FollowSeats.{IsFollowSeatOf, right_of}
+use Rattle.lb_output.specs.Follows.{Goes}
+use Rattle.lb_output.specs.Reports.{lines}
 use Rattle.lb_pool.proofs.follow_writer.write_lines.Given as goal
 
 abbrev pub invariant-loop-k : goal.invariant-loop-k

@@ -1,10 +1,10 @@
 -- The lines went out, except the text that was kept back; the last line goes out with that.
 use Rattle.std.proofs.Common.{◌≡◌, ℕ, List, ◌++◌, ap, sym, subst, ◌∙◌}
 use Rattle.lb_traces.specs.Traces.{trace_names}
-use Rattle.lb_pool.specs.FollowSeats.{right_of}
-use Rattle.lb_pool.specs.Follows.{Goes}
-use Rattle.lb_pool.specs.Reports.{lines, report_of, total}
-use Rattle.lb_pool.proofs.GoingOut.{goes_more, is_followed}
+use Rattle.lb_board.specs.FollowSeats.{right_of}
+use Rattle.lb_output.specs.Follows.{Goes}
+use Rattle.lb_output.specs.Reports.{lines, report_of, total}
+use Rattle.lb_output.proofs.GoingOut.{goes_more, is_followed}
 use Rattle.lb_pool.proofs.follow_writer.write_report.Goals as goal
 
 pub returns : goal.returns

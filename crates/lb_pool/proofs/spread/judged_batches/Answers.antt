@@ -8,7 +8,7 @@ use Rattle.rayon.specs.Numbers.{nat_range}
 use Rattle.rayon.proofs.ListFacts.{IfOk-then}
 use Rattle.rayon.proofs.ToStd.{nat_range-All}
 use Rattle.lb_sim.specs.declared.room.BatchRoom.{BatchRoom}
-use Rattle.lb_pool.specs.Plans.{numbers_in}
+use Rattle.lb_plan.specs.Plans.{numbers_in}
 use Rattle.lb_pool.specs.Runs.{IsBatchOf}
 use Rattle.lb_pool.specs.declared.batch.Judged.{Judged}
 use Rattle.lb_pool.proofs.Spreading.{of_collected, of_states}

@@ -1,13 +1,14 @@
 -- The plan has all traces, so all traces are judged.
 use Rattle.std.proofs.Common.{ℕ, ◌<◌, List, length, sym, ap, ◌∙◌, subst}
 use Rattle.std.specs.List.{All, Contains}
+use Rattle.lb_plan.proofs.WholePlans.{numbers_below, numbers_count, numbers_each}
 use Rattle.lb_pool.specs.Runs.{AreJudged, numbers_of}
-use Rattle.lb_pool.proofs.WholePlans.{numbers_below, numbers_count, numbers_each}
 use Rattle.lb_pool.proofs.alone.SetRunner.run.Goals as goal
 
 pub invariant_of-work : goal.invariant_of-work
 invariant_of-work c = record {
-  over_all = numbers_count (length c.args.set.now.traces) c.busy_lanes-lanes.result c.in_ok-plan.plan
+  over_all =
+      numbers_count (length c.args.set.now.traces) c.busy_lanes-lanes.result c.in_ok-plan.plan
       c.in_ok-plan.ensures.plan;
 }
 

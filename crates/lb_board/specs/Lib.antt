@@ -1,0 +1,9 @@
+pub mod Draws
+pub mod Views
+pub mod Claims
+pub mod Seats
+pub mod Settlements
+pub mod FollowViews
+pub mod FollowLaw
+pub mod FollowKeys
+pub mod FollowSeats

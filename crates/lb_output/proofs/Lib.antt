@@ -1,0 +1,4 @@
+pub mod ReportLines
+pub mod Counts
+pub mod SinkBytes
+pub mod GoingOut

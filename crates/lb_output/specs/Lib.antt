@@ -1,0 +1,4 @@
+pub mod Reports
+pub mod Counts
+pub mod Taken
+pub mod Follows

@@ -1,0 +1,4 @@
+pub mod Cutting
+pub mod ByLength
+pub mod LastFirst
+pub mod WholePlans

@@ -1,0 +1,6 @@
+//! Plans: how the traces of a set are cut into batches.
+#![tactic(auto)]
+
+mod plan;
+
+pub use plan::Plan;
