@@ -20,7 +20,7 @@ use Rattle.lb_check.specs.declared.verdict.Verdict.{Verdict}
 use Rattle.lb_check.specs.declared.verdict.Verdict.TheVariants.{Passed, Fault, Undefined, Assertion}
 use Rattle.lb_check.specs.declared.verdict.Verdict.TheVariants.{False}
 use Rattle.lb_traces.specs.Traces.{IsTraceName, is_name_byte}
-use Rattle.lb_pool.specs.Reports.{instant, instant_of, place_of, words}
+use Rattle.lb_output.specs.Reports.{instant, instant_of, place_of, words}
 use Rattle.lb_listing.specs.Listings.{HasInstant, HasNo, IsInstant, IsLine, Line, body, said}
 
 -- a byte of a line, which is no control character; and a byte of a name

@@ -7,7 +7,7 @@ use Rattle.std.proofs.lemmas.List.Folds.{list_any-append}
 use Rattle.std.proofs.Common.{Bool, true, false, ◌<◌, get_or, take, zero, suc, arith}
 use Rattle.std.specs.Prelude.{◌||◌}
 use Rattle.std.specs.List.{list_any, range_with_len}
-use Rattle.lb_pool.specs.Reports as report
+use Rattle.lb_output.specs.Reports as report
 use Rattle.lb_listing.specs.Listings.{Line, line_of, lines_of, spelled, verdicts_of}
 use Rattle.lb_listing.specs.declared.entry.Entry.{Entry}
 

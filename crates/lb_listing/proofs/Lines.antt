@@ -16,7 +16,7 @@ use Rattle.std.proofs.lemmas.Str.Parse.{digit_at}
 use Rattle.lb_check.specs.declared.verdict.Verdict.{Verdict}
 use Rattle.lb_check.specs.declared.verdict.Verdict.TheVariants.{Passed, Fault, Undefined, Assertion}
 use Rattle.lb_check.specs.declared.verdict.Verdict.TheVariants.{False}
-use Rattle.lb_pool.specs.Reports.{counted, instant, instant_of, number, place_of, total, words}
+use Rattle.lb_output.specs.Reports.{counted, instant, instant_of, number, place_of, total, words}
 use Rattle.lb_listing.specs.Listings.{HasInstant, HasNo, IsLine, Line, body, said, spelled}
 use Rattle.lb_listing.proofs.Bytes.{body_has_no_end, cut_once, name_has_no_space}
 

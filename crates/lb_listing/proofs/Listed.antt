@@ -16,7 +16,7 @@ use Rattle.std.proofs.lemmas.List.Quantifiers.{all_pairs_push}
 use Rattle.std.proofs.lemmas.Slice.Eq.{bytes_eq-Decides}
 use Rattle.std.proofs.Math.Seq.{get_or-append_seam}
 use Rattle.lb_check.specs.declared.verdict.Verdict.{Verdict}
-use Rattle.lb_pool.specs.Reports.{total}
+use Rattle.lb_output.specs.Reports.{total}
 use Rattle.lb_listing.specs.Listings.{IsLine, IsListing, Line, Lists, lines_of, names_of, spelled}
 use Rattle.lb_listing.specs.Listings.{total_of, verdict_in, verdicts_of, report}
 use Rattle.lb_listing.proofs.Lines.{line_not_total, line_only}

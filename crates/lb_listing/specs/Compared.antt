@@ -4,7 +4,7 @@ use Rattle.std.specs.Prelude.{ℕ, Bool, true, false, ◌&&◌, ◌||◌, ◌++�
 use Rattle.std.specs.Prelude.{Option, Some, None, is_some, not, count_by, flat_map, if◌then◌else◌}
 use Rattle.std.specs.List.{list_any}
 use Rattle.lb_check.specs.declared.verdict.Verdict.{Verdict}
-use Rattle.lb_pool.specs.Reports.{number}
+use Rattle.lb_output.specs.Reports.{number}
 use Rattle.lb_listing.specs.Listings.{Line, spaced, verdict_in}
 use Rattle.lb_listing.specs.Verdicts.{fails, fails_without_traces, is_empty, is_passed, is_same}
 use Rattle.lb_listing.specs.declared.status.Measure.{Measure}

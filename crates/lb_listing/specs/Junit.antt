@@ -7,7 +7,7 @@ use Rattle.std.specs.Prelude.{flat_map, get_or}
 use Rattle.lb_check.specs.declared.verdict.Verdict.{Verdict}
 use Rattle.lb_check.specs.declared.verdict.Verdict.TheVariants.{Passed, Fault, Undefined, Assertion}
 use Rattle.lb_check.specs.declared.verdict.Verdict.TheVariants.{False}
-use Rattle.lb_pool.specs.Reports.{is_failure, place_of, words}
+use Rattle.lb_output.specs.Reports.{is_failure, place_of, words}
 use Rattle.lb_listing.specs.Listings.{Line, said}
 
 abbrev pub is_skipped : Verdict → Bool

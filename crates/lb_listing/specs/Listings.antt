@@ -7,9 +7,9 @@ use Rattle.std.specs.Map.{lookup}
 use Rattle.std.specs.Str.{bytes_eq}
 use Rattle.lb_check.specs.declared.verdict.Verdict.{Verdict}
 use Rattle.lb_traces.specs.Traces.{IsTraceName}
-use Rattle.lb_pool.specs.Reports.{instant, instant_of, line, lines, place_of, report_of, total}
-use Rattle.lb_pool.specs.Reports.{word}
-use Rattle.lb_pool.specs.Reports.{words}
+use Rattle.lb_output.specs.Reports.{instant, instant_of, line, lines, place_of, report_of, total}
+use Rattle.lb_output.specs.Reports.{word}
+use Rattle.lb_output.specs.Reports.{words}
 use Rattle.lb_listing.specs.declared.entry.Entry.{Entry}
 use Rattle.lb_listing.specs.declared.read.ListingError.{ListingError}
 use Rattle.lb_listing.specs.declared.read.ListingError.TheVariants.{Memory, Fault}

@@ -6,7 +6,7 @@ use Rattle.std.specs.List.{list_any}
 use Rattle.lb_check.specs.declared.verdict.Verdict.{Verdict}
 use Rattle.lb_check.specs.declared.verdict.Verdict.TheVariants.{Passed, Fault, Undefined, Assertion}
 use Rattle.lb_check.specs.declared.verdict.Verdict.TheVariants.{False}
-use Rattle.lb_pool.specs.Reports.{is_failure}
+use Rattle.lb_output.specs.Reports.{is_failure}
 use Rattle.lb_listing.specs.Listings.{Line}
 use Rattle.lb_listing.specs.declared.status.Measure.{Measure}
 use Rattle.lb_listing.specs.declared.status.Measure.TheVariants.{Lenient, Strict}

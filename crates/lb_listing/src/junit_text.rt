@@ -1,7 +1,7 @@
 //! Reports as JUnit XML.
 
 ghost use Rattle.std.specs.Prelude.{◌≡◌, ◌++◌, IfOk, OnOk, map, count_by, flat_map};
-ghost use Rattle.lb_pool.specs.Reports.{is_failure};
+ghost use Rattle.lb_output.specs.Reports.{is_failure};
 ghost use Rattle.lb_listing.specs.Junit as spec;
 ghost use Rattle.lb_listing.specs.Listings as listing;
 

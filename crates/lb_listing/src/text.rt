@@ -1,7 +1,7 @@
 //! The text of a report.
 
 ghost use Rattle.std.specs.Prelude.{◌≡◌, ◌<◌, ◌++◌, [], flat_map, map, get_or, OnOk};
-ghost use Rattle.lb_pool.specs.Reports as report;
+ghost use Rattle.lb_output.specs.Reports as report;
 ghost use Rattle.lb_listing.specs.Listings as spec;
 
 use crate::entry::Entry;

@@ -1,7 +1,7 @@
 use Rattle.std.proofs.Common.{◌≡◌, ◌∙◌, ◌++◌, ℕ, List, ap, codes, flat_map, length, map, sym}
 use Rattle.std.specs.Prelude.{count_by}
 use Rattle.std.proofs.lemmas.List.{length-map}
-use Rattle.lb_pool.specs.Reports.{is_failure}
+use Rattle.lb_output.specs.Reports.{is_failure}
 use Rattle.lb_listing.specs.Junit.{counts, head, is_skipped, said_beside, testcase}
 use Rattle.lb_listing.specs.Listings.{Line, line_of}
 use Rattle.lb_listing.proofs.Pieces.{grown}

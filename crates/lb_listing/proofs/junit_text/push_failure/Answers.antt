@@ -1,5 +1,5 @@
 use Rattle.std.proofs.Common.{◌≡◌, ◌∙◌, ◌++◌, [], ℕ, List, ap, codes, get_or}
-use Rattle.lb_pool.specs.Reports.{place_of, words}
+use Rattle.lb_output.specs.Reports.{place_of, words}
 use Rattle.lb_listing.specs.Junit.{quoted}
 use Rattle.lb_listing.specs.Listings.{said}
 use Rattle.lb_listing.proofs.Pieces.{grown}

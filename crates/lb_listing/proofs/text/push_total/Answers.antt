@@ -1,7 +1,7 @@
 use Rattle.std.proofs.Common.{◌++◌, codes, length, ap, ◌∙◌, map}
-use Rattle.lb_pool.specs.Reports as report
+use Rattle.lb_output.specs.Reports as report
 use Rattle.lb_listing.specs.Listings.{line_of, verdicts_of}
-use Rattle.lb_pool.proofs.ReportLines.{ends_with_both, flat_map-range_more}
+use Rattle.lb_output.proofs.ReportLines.{ends_with_both, flat_map-range_more}
 use Rattle.lb_listing.proofs.text.push_total.Goals as goal
 
 pub loop-place-preserved : goal.loop-place-preserved

@@ -1,6 +1,6 @@
 use Rattle.std.proofs.Common.{◌≡◌, ◌++◌, codes, length, flat_map, map}
 use Rattle.std.specs.List.{range_with_len}
-use Rattle.lb_pool.specs.Reports as report
+use Rattle.lb_output.specs.Reports as report
 use Rattle.lb_listing.specs.Listings.{line_of, verdicts_of}
 use Rattle.lb_listing.proofs.text.push_total.Given as goal
 
