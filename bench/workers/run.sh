@@ -12,9 +12,9 @@ top=$(cd "$here/../.." && pwd)
 lbench=$top/crates/lbench
 . "$here/../workspace.sh"
 
-workspace "$(grep -E '^lb_(syntax|static|check|flat|lanes|machine|sim|pool):' "$top/crates.txt")
-claim_bench: lb_pool" \
-    "$top"/crates/lb_{syntax,static,check,flat,lanes,machine,sim,pool} "$here/claim_bench"
+workspace "$(grep -E '^lb_(syntax|static|check|traces|flat|plan|board):' "$top/crates.txt")
+claim_bench: lb_board" \
+    "$top"/crates/lb_{syntax,static,check,traces,flat,plan,board} "$here/claim_bench"
 cp "$top/HANDLES" "$work/"
 (cd "$work/crates/claim_bench" && quietly rt run)
 (cd "$lbench" && quietly rt run -- --help)
