@@ -1,7 +1,7 @@
 -- Answers that did not go out whole.
 use Rattle.std.proofs.Common.{◌≡◌, ◌∙◌, ◌<◌, ◌≤◌, ℕ, List, Option, None, ap, length, subst, take}
 use Rattle.clap.specs.Words.{Text}
-use Rattle.lb_pool.specs.Taken.{Takes}
+use Rattle.lb_output.specs.Taken.{Takes}
 use Rattle.lb_command.specs.Outcomes.{IsDelivered, IsTold, refusal_status, text_of}
 use Rattle.lb_command.specs.Outcomes.IsDelivered.{broken}
 use Rattle.lb_command.specs.Lines.{line}

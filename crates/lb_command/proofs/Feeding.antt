@@ -3,7 +3,7 @@ use Rattle.std.proofs.Common.{◌≡◌, ◌∙◌, ℕ, List, [], ◌++◌, Opt
 use Rattle.std.proofs.Common.{ap, append-nil, arith, inr, refl, subst, sym}
 use Rattle.std.specs.Io.KnownBytes.{Consumes, IsAtEnd}
 use Rattle.clap.specs.Words.{Text}
-use Rattle.lb_pool.specs.declared.text.Report.{Report}
+use Rattle.lb_output.specs.declared.text.Report.{Report}
 use Rattle.lb_report.specs.Bench.{IsBenchReport}
 use Rattle.lb_report.specs.FeedAnswers.{IsFeedAnswer}
 use Rattle.lb_report.specs.RangeAnswers.{IsRangeAnswer}

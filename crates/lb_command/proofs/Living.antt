@@ -4,7 +4,7 @@ use Rattle.clap.specs.Words.{Text}
 use Rattle.lb_report.specs.LiveReports.{IsTurnedAway}
 use Rattle.lb_refusal.specs.declared.error.BenchError.{BenchError}
 use Rattle.lb_refusal.specs.declared.options.Options.{Options}
-use Rattle.lb_pool.specs.declared.follow_error.FollowError.{FollowError}
+use Rattle.lb_output.specs.declared.follow_error.FollowError.{FollowError}
 use Rattle.lb_command.specs.Live.{AreRefused, GoesOn, GoesTo, IsLive, IsLiveOn, IsRefusedWith}
 use Rattle.lb_command.specs.Outcomes.{IsRefusedOn, IsToldBy, IsUnread, TellsOfInput, source_in}
 use Rattle.lb_command.specs.Outcomes.{traces_in}

@@ -1,7 +1,7 @@
 -- From a feed and two sinks to the streams of std that they are over.
 use Rattle.std.proofs.Common.{◌≡◌, ℕ, List, Option, subst}
 use Rattle.clap.specs.Words.{Text}
-use Rattle.lb_pool.specs.Taken.{Taken}
+use Rattle.lb_output.specs.Taken.{Taken}
 use Rattle.lb_command.specs.Correct.{IsRun}
 use Rattle.lb_command.specs.Streams.{Change, Input, change, input}
 use Rattle.lb_command.specs.StreamRuns.{IsStreamRun, OnReader, OnWriter, held}

@@ -6,7 +6,7 @@ use Rattle.clap.specs.Words.{Text}
 use Rattle.lb_report.specs.declared.feed.LoadError.{LoadError}
 use Rattle.lb_report.specs.declared.feed.LoadError.TheVariants as load
 use Rattle.lb_refusal.specs.declared.options.Options.{Options}
-use Rattle.lb_pool.specs.declared.text.Report.{Report}
+use Rattle.lb_output.specs.declared.text.Report.{Report}
 use Rattle.lb_words.specs.Words.{IsRefused}
 use Rattle.lb_words.specs.declared.error.WordsError.{WordsError}
 use Rattle.lb_words.specs.declared.error.WordsError.TheVariants as error

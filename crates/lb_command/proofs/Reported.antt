@@ -2,7 +2,7 @@
 use Rattle.std.proofs.Common.{◌≡◌, List, sym, subst}
 use Rattle.lb_syntax.specs.Tokens.{Text}
 use Rattle.lb_traces.specs.Traces.{IsRecording, trace_names}
-use Rattle.lb_pool.specs.declared.text.Report.{Report}
+use Rattle.lb_output.specs.declared.text.Report.{Report}
 use Rattle.lb_report.specs.Bench.{IsBenchReport, IsReportOn}
 use Rattle.lb_refusal.specs.declared.options.Options.{Options}
 use Rattle.lb_listing.specs.Listings.{Line, Lists}

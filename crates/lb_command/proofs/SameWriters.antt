@@ -1,8 +1,8 @@
 -- The sinks of a run lend their bytes to the same writers after the run as before it.
 use Rattle.std.proofs.Common.{ℕ, List, [], ◌∷◌, Result, Ok, Err, inl, inr}
 use Rattle.clap.specs.Words.{Text}
-use Rattle.lb_pool.specs.Follows.{IsFollowed}
-use Rattle.lb_pool.specs.declared.follow_error.FollowError.{FollowError}
+use Rattle.lb_output.specs.Follows.{IsFollowed}
+use Rattle.lb_output.specs.declared.follow_error.FollowError.{FollowError}
 use Rattle.lb_values.specs.Sending.{IsSent}
 use Rattle.lb_words.specs.declared.request.Aim.{Aim}
 use Rattle.lb_words.specs.declared.request.Aim.TheVariants as aim

@@ -2,9 +2,9 @@
 use Rattle.std.proofs.Common.{◌≡◌, ℕ, List, [], ◌++◌, Result, Ok, Err, refl, inl, inr}
 use Rattle.std.proofs.Common.{◌∷◌, ◌+◌, ◌<◌, ◌≤◌, length, arith}
 use Rattle.std.specs.Prelude.{IfErr, OnOk, OnErr}
-use Rattle.lb_pool.specs.Taken.{Taken, Takes}
-use Rattle.lb_pool.specs.declared.sink.Sent.{Sent}
-use Rattle.lb_pool.proofs.SinkBytes.{nothing_by_none, takes_more}
+use Rattle.lb_output.specs.Taken.{Taken, Takes}
+use Rattle.lb_output.specs.declared.sink.Sent.{Sent}
+use Rattle.lb_output.proofs.SinkBytes.{nothing_by_none, takes_more}
 use Rattle.lb_command.specs.Streams.{Change, HasSameWriter, TookOrFailed}
 use Rattle.lb_command.specs.Warnings.{IsWarned}
 

@@ -4,7 +4,7 @@ use Rattle.std.specs.Prelude.{◌≡◌, ◌⊎◌, ℕ, List, [], Option, Some,
 use Rattle.std.specs.Borrow.{Bor}
 use Rattle.std.specs.Option.{MatchOption}
 use Rattle.clap.specs.Words.{Text}
-use Rattle.lb_pool.specs.declared.text.Report.{Report}
+use Rattle.lb_output.specs.declared.text.Report.{Report}
 use Rattle.lb_listing.specs.Compared as compared
 use Rattle.lb_listing.specs.Indexed.{IsIndexed, listed}
 use Rattle.lb_listing.specs.Junit.{junit_of}

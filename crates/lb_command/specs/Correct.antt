@@ -1,7 +1,7 @@
 -- Runs of the program: their outputs and their exit statuses.
 -- Source: this project's rule.
 use Rattle.std.specs.Prelude.{◌≡◌, ◌⊎◌, ◌++◌, ℕ, List, [], Option, Result, Ok, Err, string_bytes}
-use Rattle.lb_pool.specs.declared.text.Report.{Report}
+use Rattle.lb_output.specs.declared.text.Report.{Report}
 use Rattle.clap.specs.Words.{Text}
 use Rattle.lb_words.specs.Words.{AsksForHelp, AsksForVersion, IsAsked, IsUnlawful}
 use Rattle.lb_words.specs.declared.request.Aim.{Aim}

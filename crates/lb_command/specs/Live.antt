@@ -5,8 +5,8 @@ use Rattle.lb_report.specs.Correct.{IsBenchAnswer}
 use Rattle.lb_report.specs.LiveReports.{IsUnderWay}
 use Rattle.lb_refusal.specs.declared.error.BenchError.{BenchError}
 use Rattle.lb_refusal.specs.declared.options.Options.{Options}
-use Rattle.lb_pool.specs.declared.follow_error.FollowError.{FollowError}
-use Rattle.lb_pool.specs.declared.follow_error.FollowError.TheVariants.{Memory, Write}
+use Rattle.lb_output.specs.declared.follow_error.FollowError.{FollowError}
+use Rattle.lb_output.specs.declared.follow_error.FollowError.TheVariants.{Memory, Write}
 use Rattle.clap.specs.Words.{Text}
 use Rattle.lb_words.specs.declared.request.Task.{Task}
 use Rattle.lb_command.specs.Outcomes.{AreTexts, HasPath, IsRefusedOn, IsToldBy, TellsOfInput}

@@ -2,7 +2,7 @@
 -- Source: this project's rule.
 use Rattle.std.specs.Prelude.{◌≡◌, ◌⊎◌, ◌<◌, ℕ, List, [], string_bytes, get_or, length}
 use Rattle.clap.specs.Words.{Text}
-use Rattle.lb_pool.specs.declared.text.Report.{Report}
+use Rattle.lb_output.specs.declared.text.Report.{Report}
 use Rattle.lb_listing.specs.Listings.{IsFault, Line, Lists}
 use Rattle.lb_listing.specs.Merged.{HaveTwice, IsMerged}
 use Rattle.lb_words.specs.declared.request.Task.{Task}

@@ -14,8 +14,8 @@ use Rattle.lb_report.specs.declared.feed.LoadError.TheVariants as load
 use Rattle.lb_report.specs.declared.feeding.FeedFault.{FeedFault}
 use Rattle.lb_report.specs.declared.feeding.FeedFault.TheVariants as fault
 use Rattle.lb_refusal.specs.declared.options.Options.{Options}
-use Rattle.lb_pool.specs.Taken.{Takes}
-use Rattle.lb_pool.specs.declared.text.Report.{Report}
+use Rattle.lb_output.specs.Taken.{Takes}
+use Rattle.lb_output.specs.declared.text.Report.{Report}
 use Rattle.clap.specs.Words.{Text}
 use Rattle.lb_words.specs.Words.{asks_to_explain}
 use Rattle.lb_words.specs.declared.error.WordsError.{WordsError}

@@ -3,7 +3,7 @@
 use Rattle.std.specs.Prelude.{◌≡◌, ◌≢◌, ℕ, ◌==◌, ◌⊎◌, if◌then◌else◌, List, Option, Some, None}
 use Rattle.std.specs.Prelude.{Result, Ok, Err}
 use Rattle.lb_check.specs.Acceptance.{IsAccepted}
-use Rattle.lb_pool.specs.declared.follow_error.FollowError.{FollowError}
+use Rattle.lb_output.specs.declared.follow_error.FollowError.{FollowError}
 use Rattle.lb_report.specs.Bench.{OnlyProgram}
 use Rattle.lb_report.specs.Correct.{IsBenchAnswer}
 use Rattle.lb_refusal.specs.declared.error.BenchError.{BenchError}

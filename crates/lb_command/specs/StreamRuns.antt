@@ -3,7 +3,7 @@
 use Rattle.std.specs.Prelude.{ℕ, List, Option}
 use Rattle.std.specs.Borrow.{GName}
 use Rattle.clap.specs.Words.{Text}
-use Rattle.lb_pool.specs.Taken.{Taken}
+use Rattle.lb_output.specs.Taken.{Taken}
 use Rattle.lb_command.specs.Correct.{IsRun}
 use Rattle.lb_command.specs.Streams.{Change, Input, change, input}
 

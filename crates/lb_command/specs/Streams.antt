@@ -1,7 +1,7 @@
 -- The changes of a run to its input, to the sink of its output and to the sink of its errors.
 -- Source: this project's rule.
 use Rattle.std.specs.Prelude.{◌≡◌, ℕ, ◌<◌, ◌⊎◌, List, Option}
-use Rattle.lb_pool.specs.Taken.{Taken, Takes, TakesNothing}
+use Rattle.lb_output.specs.Taken.{Taken, Takes, TakesNothing}
 use Rattle.lb_report.specs.Feeds.{IsTooLong}
 
 -- a sink before and after a run: what it has taken, and how often it has failed

@@ -2,7 +2,7 @@
 
 ghost use Rattle.std.specs.Prelude.{◌≡◌, ◌+◌, ◌<◌, ◌≤◌, IfErr, OnErr, OnOk, length};
 ghost use Rattle.std.specs.Prelude.{map, string_bytes, take};
-ghost use Rattle.lb_pool.specs.Taken.{Takes};
+ghost use Rattle.lb_output.specs.Taken.{Takes};
 ghost use Rattle.lb_command.specs.Outcomes as spec;
 ghost use Rattle.lb_command.specs.Streams.{change};
 ghost use Rattle.lb_command.specs.Warnings.{IsWarned};

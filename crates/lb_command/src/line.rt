@@ -1,7 +1,7 @@
 //! The line that reports a refusal.
 
 ghost use Rattle.std.specs.Prelude.{◌≡◌, ◌<◌, ◌++◌, OnOk, OnErr, decimal};
-ghost use Rattle.lb_pool.specs.Taken.{Takes};
+ghost use Rattle.lb_output.specs.Taken.{Takes};
 ghost use Rattle.lb_refusal.specs.Refusals.{word_of};
 ghost use Rattle.lb_command.specs.Outcomes.{refusal_status};
 ghost use Rattle.lb_command.specs.Lines as spec;
@@ -51,7 +51,7 @@ fn send_place<S: Sink>(sink: &mut S, line: u32, column: u32) -> Result<(), Sent>
 }
 
 /// Writes the place of a refusal, if it has one.
-#[tactic(auto, using(lb_pool::proofs::SinkBytes::takes_no_byte))]
+#[tactic(auto, using(lb_output::proofs::SinkBytes::takes_no_byte))]
 fn send_position<S: Sink>(sink: &mut S, position: Option<(u32, u32)>) -> Result<(), Sent>
     requires { S.failures sink.old < u64.MAX }
     ensures same { (S.taken sink.new).writer ≡ (S.taken sink.old).writer }

@@ -18,8 +18,8 @@ use Rattle.lb_check.specs.declared.verdict.Verdict.TheVariants.{Passed}
 use Rattle.lb_flat.specs.Inputs.{inputs_of, scalars_in}
 use Rattle.lb_traces.specs.Traces.{IsRecording, Recording, Trace, Traces, trace_names}
 use Rattle.lb_trace.specs.Spelling.{Spells}
-use Rattle.lb_pool.specs.Reports.{IsReport, report_of}
-use Rattle.lb_pool.specs.declared.text.Report.{Report}
+use Rattle.lb_output.specs.Reports.{IsReport, report_of}
+use Rattle.lb_output.specs.declared.text.Report.{Report}
 use Rattle.lb_report.specs.Bench.{AreVerdicts, IsBenchReport, IsReportOn, IsVerdict, program_of}
 use Rattle.lb_refusal.specs.declared.options.Options.{Options}
 use Rattle.lb_listing.specs.Listings.{Line, Lists, names_of, verdicts_of}

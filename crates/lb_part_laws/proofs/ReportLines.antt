@@ -13,8 +13,8 @@ use Rattle.lb_static.specs.Instances.{Program}
 use Rattle.lb_flat.specs.Inputs.{inputs_of, scalars_in}
 use Rattle.lb_traces.specs.Traces.{IsRecording, IsTrace, IsTraceName, Recording, Trace}
 use Rattle.lb_traces.specs.Traces.{trace_at, trace_names}
-use Rattle.lb_pool.specs.Reports.{IsReport, report_of}
-use Rattle.lb_pool.specs.declared.text.Report.{Report}
+use Rattle.lb_output.specs.Reports.{IsReport, report_of}
+use Rattle.lb_output.specs.declared.text.Report.{Report}
 use Rattle.lb_report.specs.Bench.{AreVerdicts}
 use Rattle.lb_listing.specs.Listings.{HasInstant, IsLine, Line, Lists, names_of}
 use Rattle.lb_listing.specs.Listings.{verdicts_of}

@@ -3,7 +3,7 @@
 use Rattle.std.specs.Prelude.{List, ℕ, map}
 use Rattle.std.specs.List.{AllZip}
 use Rattle.lb_syntax.specs.Tokens.{Text}
-use Rattle.lb_pool.specs.declared.text.Report.{Report}
+use Rattle.lb_output.specs.declared.text.Report.{Report}
 use Rattle.lb_report.specs.Bench.{IsBenchReport}
 use Rattle.lb_refusal.specs.declared.options.Options.{Options}
 

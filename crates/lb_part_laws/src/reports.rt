@@ -2,7 +2,7 @@
 
 ghost use Rattle.std.specs.Prelude.{◌≡◌, ℕ, List};
 ghost use Rattle.lb_syntax.specs.Tokens.{Text};
-ghost use Rattle.lb_pool.specs.declared.text.Report.{Report};
+ghost use Rattle.lb_output.specs.declared.text.Report.{Report};
 ghost use Rattle.lb_listing.specs.Merged.{IsMerged};
 ghost use Rattle.lb_report.specs.Bench.{IsBenchReport};
 ghost use Rattle.lb_refusal.specs.declared.options.Options.{Options};

@@ -33,7 +33,7 @@ use Rattle.lb_refusal.specs.Refusals.{number_of}
 use Rattle.lb_refusal.specs.declared.error.BenchError.{BenchError}
 use Rattle.lb_refusal.specs.declared.error.BenchError.TheVariants as part
 use Rattle.lb_refusal.specs.declared.options.Options.{Options}
-use Rattle.lb_pool.specs.declared.text.Report.{Report}
+use Rattle.lb_output.specs.declared.text.Report.{Report}
 use Rattle.lb_report.proofs.FirstRefusals.{is_computed}
 
 -- a refusal for which `Refuses` holds, and whose number is `number`

@@ -21,8 +21,8 @@ use Rattle.lb_trace.specs.declared.error.TraceError.TheVariants as trace
 use Rattle.lb_trace.proofs.KnownNames.{names_long}
 use Rattle.lb_trace.proofs.Outcomes.{complete_text, outcome-long, refused_text, sound_text}
 use Rattle.lb_pool.specs.Correct as run
-use Rattle.lb_pool.specs.Reports.{IsReport}
-use Rattle.lb_pool.specs.declared.text.Report.{Report}
+use Rattle.lb_output.specs.Reports.{IsReport}
+use Rattle.lb_output.specs.declared.text.Report.{Report}
 use Rattle.lb_report.specs.Bench.{IsBenchReport, IsRefused, OnlyProgram, program_of}
 use Rattle.lb_report.specs.FeedAnswers.{IsAnswerOnFeed, IsFeedAnswer, IsFeedFault}
 use Rattle.lb_report.specs.FeedJudging.{HasRefusedSource, HasRefusedTraces, IsJudgingFault}

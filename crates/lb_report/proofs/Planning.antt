@@ -3,7 +3,7 @@ use Rattle.std.proofs.Common.{◌≡◌, ℕ, List, length, ◌∙◌}
 use Rattle.std.specs.List.{range_with_len}
 use Rattle.std.proofs.lemmas.List.FromFn.{length-range_with_len}
 use Rattle.std.proofs.lemmas.List.Sorted.{length_permutation}
-use Rattle.lb_pool.specs.Plans.{numbers_in, IsPlan}
+use Rattle.lb_plan.specs.Plans.{numbers_in, IsPlan}
 
 -- n has another name in the promise of `Plan::in_order`
 pub is_over_all :

@@ -25,7 +25,7 @@ use Rattle.lb_trace.specs.Tables.{columns_in}
 use Rattle.lb_trace.specs.Texts.{IsFront}
 use Rattle.lb_trace.proofs.PlainRecords.{plain_text}
 use Rattle.lb_trace.proofs.TextReadings.{front_ended, front_more, front_none, refused_on}
-use Rattle.lb_pool.specs.Counts.{count_more}
+use Rattle.lb_output.specs.Counts.{count_more}
 use Rattle.lb_report.specs.JudgedParts.{HasRefused, IsJudgedPart, IsPiecesJudged}
 use Rattle.lb_report.specs.JudgedParts.{IsRestJudged, IsRestRefused}
 use Rattle.lb_report.specs.PlacedFiles.{between, told_between}

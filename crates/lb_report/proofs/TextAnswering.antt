@@ -12,7 +12,7 @@ use Rattle.lb_report.specs.Windows.{Left}
 use Rattle.lb_report.specs.declared.answer.AcceptedProgram.{AcceptedProgram}
 use Rattle.lb_refusal.specs.declared.error.BenchError.{BenchError}
 use Rattle.lb_refusal.specs.declared.options.Options.{Options}
-use Rattle.lb_pool.specs.declared.text.Report.{Report}
+use Rattle.lb_output.specs.declared.text.Report.{Report}
 use Rattle.lb_report.proofs.FeedAnswering.{long_refused}
 
 -- a feed that was read to its end gave all the bytes that it told

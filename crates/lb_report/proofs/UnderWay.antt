@@ -10,10 +10,11 @@ use Rattle.lb_flat.specs.RightVerdicts.{right_verdicts}
 use Rattle.lb_traces.specs.Traces.{Recording, Traces}
 use Rattle.lb_trace.specs.Spelling.{Spells}
 use Rattle.lb_pool.specs.Correct as run
-use Rattle.lb_pool.specs.Follows.{IsFollowed, right_report}
-use Rattle.lb_pool.specs.Taken.{Taken}
-use Rattle.lb_pool.specs.declared.follow_error.FollowError.{FollowError}
-use Rattle.lb_pool.proofs.SinkBytes.{takes_nothing}
+use Rattle.lb_output.specs.Follows.{IsFollowed}
+use Rattle.lb_pool.specs.RightReports.{right_report}
+use Rattle.lb_output.specs.Taken.{Taken}
+use Rattle.lb_output.specs.declared.follow_error.FollowError.{FollowError}
+use Rattle.lb_output.proofs.SinkBytes.{takes_nothing}
 use Rattle.lb_report.specs.AcceptedPrograms.{IsAcceptedProgram}
 use Rattle.lb_report.specs.Bench.{IsRefused, OnlyProgram, program_of}
 use Rattle.lb_report.specs.LiveReports.{IsBenchText, IsPrepared, IsTurnedAway}

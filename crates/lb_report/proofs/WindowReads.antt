@@ -5,8 +5,8 @@ use Rattle.std.proofs.Common.{append_assoc, length-append, inl, inr, ⊎_elim}
 use Rattle.std.proofs.lemmas.List.{append-nil, get_or-append-add, length-drop, length-take-le}
 use Rattle.lb_trace.specs.Chunks.{is_ended}
 use Rattle.lb_trace.specs.Plain.{ends_line}
-use Rattle.lb_pool.specs.Counts.{count_more}
-use Rattle.lb_pool.proofs.Counts.{count_more-twice}
+use Rattle.lb_output.specs.Counts.{count_more}
+use Rattle.lb_output.proofs.Counts.{count_more-twice}
 use Rattle.lb_report.specs.Windows.{HasRead, HasTaken, IsLoadFault, IsWindow, Left, RunsOver}
 use Rattle.lb_report.specs.Windows.{bytes_left, ended_by, text_in}
 use Rattle.lb_report.specs.declared.feed.LoadError.{LoadError}

@@ -28,11 +28,11 @@ use Rattle.lb_flat.specs.declared.error.OrderError.{OrderError}
 use Rattle.lb_flat.specs.declared.error.OrderError.TheVariants as order
 use Rattle.lb_trace.specs.Errors.{Refuses}
 use Rattle.lb_trace.specs.Spelling.{Spells}
-use Rattle.lb_pool.specs.Reports.{IsReport}
+use Rattle.lb_output.specs.Reports.{IsReport}
 use Rattle.lb_refusal.specs.declared.error.BenchError.{BenchError}
 use Rattle.lb_refusal.specs.declared.error.BenchError.TheVariants as part
 use Rattle.lb_refusal.specs.declared.options.Options.{Options}
-use Rattle.lb_pool.specs.declared.text.Report.{Report}
+use Rattle.lb_output.specs.declared.text.Report.{Report}
 
 -- ## The program
 

@@ -9,7 +9,7 @@ use Rattle.lb_report.specs.FirstRefusals.{first_refusal}
 use Rattle.lb_refusal.specs.Refusals.{number_of}
 use Rattle.lb_refusal.specs.declared.error.BenchError.{BenchError}
 use Rattle.lb_refusal.specs.declared.options.Options.{Options}
-use Rattle.lb_pool.specs.declared.text.Report.{Report}
+use Rattle.lb_output.specs.declared.text.Report.{Report}
 
 -- the number of the first refusal of the texts, with the node under test and the observer that the
 -- options name, or none

@@ -4,7 +4,7 @@ use Rattle.std.specs.Prelude.{◌≡◌, ◌<◌, ◌⊎◌, length, Result, Ok,
 use Rattle.std.specs.Io.KnownBytes.{Consumes, IsAtEnd}
 use Rattle.lb_syntax.specs.Tokens.{Text}
 use Rattle.lb_report.specs.Correct.{IsBenchAnswer}
-use Rattle.lb_pool.specs.Counts.{count_more}
+use Rattle.lb_output.specs.Counts.{count_more}
 use Rattle.lb_report.specs.Feeds.{IsTooLong}
 use Rattle.lb_report.specs.Windows.{Left}
 use Rattle.lb_refusal.specs.declared.error.BenchError.{BenchError}
@@ -13,7 +13,7 @@ use Rattle.lb_report.specs.declared.feed.LoadError.TheVariants as load
 use Rattle.lb_report.specs.declared.feeding.FeedFault.{FeedFault}
 use Rattle.lb_report.specs.declared.feeding.FeedFault.TheVariants as fault
 use Rattle.lb_refusal.specs.declared.options.Options.{Options}
-use Rattle.lb_pool.specs.declared.text.Report.{Report}
+use Rattle.lb_output.specs.declared.text.Report.{Report}
 
 -- the feed was read to its end, and `told` is the answer of the bench to all its bytes; a feed that
 -- tells its bytes gave just those

@@ -1,7 +1,7 @@
 -- Feeds that give too many bytes.
 -- Source: this project's rule.
 use Rattle.std.specs.Prelude.{◌≡◌, ℕ, ◌<◌, IfSome, List, Option, length}
-use Rattle.lb_pool.specs.Counts.{count_more}
+use Rattle.lb_output.specs.Counts.{count_more}
 use Rattle.lb_report.specs.declared.feed.TheConstants.{INPUT_LIMIT}
 
 -- a feed has given more bytes than are read of an input

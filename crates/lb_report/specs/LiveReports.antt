@@ -9,11 +9,11 @@ use Rattle.lb_flat.specs.Programs as flat
 use Rattle.lb_flat.specs.Standing.{HasKindsOf}
 use Rattle.lb_traces.specs.Traces.{Recording, trace_names}
 use Rattle.lb_trace.specs.Correct.{IsTraceReading}
-use Rattle.lb_pool.specs.Follows.{IsFollowed}
-use Rattle.lb_pool.specs.Plans.{numbers_in}
-use Rattle.lb_pool.specs.Reports.{report_of}
-use Rattle.lb_pool.specs.Taken.{Taken, TakesNothing}
-use Rattle.lb_pool.specs.declared.follow_error.FollowError.{FollowError}
+use Rattle.lb_output.specs.Follows.{IsFollowed}
+use Rattle.lb_plan.specs.Plans.{numbers_in}
+use Rattle.lb_output.specs.Reports.{report_of}
+use Rattle.lb_output.specs.Taken.{Taken, TakesNothing}
+use Rattle.lb_output.specs.declared.follow_error.FollowError.{FollowError}
 use Rattle.lb_report.specs.AcceptedPrograms.{IsAcceptedProgram}
 use Rattle.lb_report.specs.Bench.{AreVerdicts, IsOnlyRecording, IsRefused, OnlyProgram}
 use Rattle.lb_report.specs.Correct.{IsFirstTold, first_of}

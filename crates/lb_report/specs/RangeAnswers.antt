@@ -2,7 +2,7 @@
 -- Source: this project's rule.
 use Rattle.std.specs.Prelude.{ℕ, List, Option, Result, Ok, Err, Bool as Truth}
 use Rattle.lb_syntax.specs.Tokens.{Text}
-use Rattle.lb_pool.specs.declared.text.Report.{Report}
+use Rattle.lb_output.specs.declared.text.Report.{Report}
 use Rattle.lb_report.specs.Correct.{IsBenchAnswer}
 use Rattle.lb_report.specs.Ranges.{IsFileFault, IsFileText}
 use Rattle.lb_report.specs.declared.feeding.FeedFault.{FeedFault}

@@ -4,7 +4,7 @@ use Rattle.std.specs.Prelude.{ℕ, ◌≡◌, ◌+◌, ◌-◌, ◌<◌, ◌≤�
 use Rattle.std.specs.Prelude.{drop}
 use Rattle.std.specs.Prelude.{Bool as Truth, ◌∷◌, true, if◌then◌else◌}
 use Rattle.std.specs.Io.KnownBytes.{Consumes, IsAtEnd}
-use Rattle.lb_pool.specs.Counts.{count_more}
+use Rattle.lb_output.specs.Counts.{count_more}
 use Rattle.lb_trace.specs.Chunks.{is_ended}
 use Rattle.lb_report.specs.declared.feed.LoadError.{LoadError}
 use Rattle.lb_report.specs.declared.feed.LoadError.TheVariants as fault

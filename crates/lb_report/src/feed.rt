@@ -3,7 +3,7 @@
 ghost use Rattle.std.specs.Prelude.{◌≡◌, ℕ, List, Option, None, ◌⊎◌, ◌+◌, ◌<◌, ◌≤◌, length, take};
 ghost use Rattle.std.specs.Prelude.{drop, vec_len, IfOk, OnOk, OnErr, IfSome, IsErrOf};
 ghost use Rattle.std.specs.Io.KnownBytes.{Consumes, IsAtEnd};
-ghost use Rattle.lb_pool.specs.Counts.{count_more};
+ghost use Rattle.lb_output.specs.Counts.{count_more};
 ghost use Rattle.lb_report.specs.Feeds.{IsTooLong};
 
 use std::alloc::{AllocError, Global};

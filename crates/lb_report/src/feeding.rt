@@ -2,7 +2,7 @@
 
 ghost use Rattle.std.specs.Prelude.{◌≡◌, ◌<◌, ◌≤◌, ◌*◌, IfErr, IfOk, IfSome, OnOk, length};
 ghost use Rattle.lb_traces.specs.Traces.{trace_names};
-ghost use Rattle.lb_pool.specs.Reports.{IsReport};
+ghost use Rattle.lb_output.specs.Reports.{IsReport};
 ghost use Rattle.lb_report.specs.Bench.{OnlyProgram};
 ghost use Rattle.lb_report.specs.FeedAnswers.{IsFeedAnswer};
 ghost use Rattle.lb_report.specs.FeedJudging.{IsJudgingFault, IsLastFault, IsProgramJudged};

@@ -4,8 +4,8 @@ ghost use Rattle.std.specs.Prelude.{◌≡◌, ◌<◌, Some, IfOk, length};
 ghost use Rattle.lb_flat.specs.Programs.{program_of};
 ghost use Rattle.lb_flat.specs.RightVerdicts.{right_verdicts};
 ghost use Rattle.lb_flat.specs.Standing.{HasKindsOf};
-ghost use Rattle.lb_pool.specs.FollowSeats.{IsFollowSeatOf, right_of};
-ghost use Rattle.lb_pool.specs.Settlements.{IsRight};
+ghost use Rattle.lb_board.specs.FollowSeats.{IsFollowSeatOf, right_of};
+ghost use Rattle.lb_board.specs.Settlements.{IsRight};
 
 use crate::pool::first_case;
 use lb_check::Verdict;

@@ -1,7 +1,7 @@
 //! Plans, claim boards, and runs by workers.
 
 ghost use Rattle.std.specs.Prelude.{◌≡◌};
-ghost use Rattle.lb_pool.specs.Seats.{IsSeatOf, shares_of};
+ghost use Rattle.lb_board.specs.Seats.{IsSeatOf, shares_of};
 
 use crate::answers::{push_answer, push_run, spread};
 use lb_check::Verdict;

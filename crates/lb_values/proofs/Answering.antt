@@ -6,9 +6,9 @@ use Rattle.lb_syntax.specs.Tokens.{Text}
 use Rattle.lb_syntax.specs.Tree.{Source}
 use Rattle.lb_flat.specs.Programs as flat
 use Rattle.lb_traces.specs.Traces.{trace_at}
-use Rattle.lb_pool.specs.Taken.{Taken}
-use Rattle.lb_pool.specs.declared.follow_error.FollowError.{FollowError}
-use Rattle.lb_pool.proofs.SinkBytes.{takes_nothing}
+use Rattle.lb_output.specs.Taken.{Taken}
+use Rattle.lb_output.specs.declared.follow_error.FollowError.{FollowError}
+use Rattle.lb_output.proofs.SinkBytes.{takes_nothing}
 use Rattle.lb_report.specs.Bench.{IsRefused, program_of}
 use Rattle.lb_refusal.specs.declared.error.BenchError.{BenchError}
 use Rattle.lb_refusal.specs.declared.error.BenchError.TheVariants.{Memory}

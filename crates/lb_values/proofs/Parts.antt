@@ -4,10 +4,10 @@ use Rattle.std.proofs.Common.{IfErr, OnOk, Ok, Err}
 use Rattle.std.proofs.Common.{ap, append_assoc, append-nil, arith, length, length-append, refl, sym}
 use Rattle.std.proofs.Common.{drop, subst, take}
 use Rattle.std.proofs.lemmas.List.{take-append-drop, take_at}
-use Rattle.lb_pool.specs.Follows.{HasBegun, HasCause}
-use Rattle.lb_pool.specs.Taken.{Taken, Takes, TakesNothing}
-use Rattle.lb_pool.specs.declared.follow_error.FollowError.{FollowError}
-use Rattle.lb_pool.proofs.SinkBytes.{taken_and_kept, takes_more, takes_no_byte, takes_nothing}
+use Rattle.lb_output.specs.Follows.{HasBegun, HasCause}
+use Rattle.lb_output.specs.Taken.{Taken, Takes, TakesNothing}
+use Rattle.lb_output.specs.declared.follow_error.FollowError.{FollowError}
+use Rattle.lb_output.proofs.SinkBytes.{taken_and_kept, takes_more, takes_no_byte, takes_nothing}
 use Rattle.lb_values.specs.Sending.{HasSent, IsText}
 
 -- before the first part nothing has been sent

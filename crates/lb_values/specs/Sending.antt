@@ -1,9 +1,9 @@
 -- A text that goes to a sink.
 -- Source: this project's rule.
 use Rattle.std.specs.Prelude.{◌≡◌, ℕ, Bool, true, List, ◌++◌, Result, Ok, Err}
-use Rattle.lb_pool.specs.Follows.{HasBegun, HasCause}
-use Rattle.lb_pool.specs.Taken.{Taken, Takes}
-use Rattle.lb_pool.specs.declared.follow_error.FollowError.{FollowError}
+use Rattle.lb_output.specs.Follows.{HasBegun, HasCause}
+use Rattle.lb_output.specs.Taken.{Taken, Takes}
+use Rattle.lb_output.specs.declared.follow_error.FollowError.{FollowError}
 
 -- a sink took the first bytes of a text, but not the rest
 pub record HasStopped

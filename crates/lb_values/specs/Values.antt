@@ -7,8 +7,8 @@ use Rattle.lb_check.specs.Acceptance.{IsAccepted}
 use Rattle.lb_flat.specs.FlatPrograms.{IsFlatOf}
 use Rattle.lb_flat.specs.Judging.{FlatProgram}
 use Rattle.lb_traces.specs.Traces.{Recording, trace_at}
-use Rattle.lb_pool.specs.Taken.{Taken, TakesNothing}
-use Rattle.lb_pool.specs.declared.follow_error.FollowError.{FollowError}
+use Rattle.lb_output.specs.Taken.{Taken, TakesNothing}
+use Rattle.lb_output.specs.declared.follow_error.FollowError.{FollowError}
 use Rattle.lb_report.specs.Bench.{IsOnlyRecording, OnlyProgram}
 use Rattle.lb_report.specs.Correct.{IsBenchAnswer}
 use Rattle.lb_refusal.specs.declared.error.BenchError.{BenchError}

@@ -2,12 +2,12 @@
 
 ghost use Rattle.std.specs.Prelude.{◌≡◌, ◌<◌, ℕ, List, [], Ok, true, false, IfErr, IfOk, OnErr};
 ghost use Rattle.std.specs.Prelude.{OnOk};
-ghost use Rattle.lb_pool.specs.Follows.{HasCause};
-ghost use Rattle.lb_pool.specs.Taken.{TakesNothing};
+ghost use Rattle.lb_output.specs.Follows.{HasCause};
+ghost use Rattle.lb_output.specs.Taken.{TakesNothing};
 ghost use Rattle.lb_show.specs.Shows.{csv_rest, is_csv, parts_left};
 ghost use Rattle.lb_values.specs.Sending.{HasSent, IsText};
 
-use lb_pool::{FollowError, Sink, send};
+use lb_output::{FollowError, Sink, send};
 use lb_show::Show;
 use std::alloc::Global;
 

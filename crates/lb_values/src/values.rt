@@ -12,7 +12,7 @@ ghost use Rattle.lb_values.specs.Values.{IsFaultOf, IsValuesAnswer};
 
 use crate::case::Case;
 use crate::sending::send_values;
-use lb_pool::{FollowError, Sink};
+use lb_output::{FollowError, Sink};
 use lb_report::{BenchError, Options};
 use lb_show::{Show, ShowError, ShowOptions};
 use lb_syntax::{Source as Tree, parse};

@@ -1,5 +1,5 @@
 use Rattle.std.proofs.Common.{Bool, List, ℕ, refl, subst, sym, ◌∙◌}
-use Rattle.lb_pool.proofs.SinkBytes.{takes_nothing}
+use Rattle.lb_output.proofs.SinkBytes.{takes_nothing}
 use Rattle.lb_command.specs.Announcements.{IsNotedBy}
 use Rattle.lb_command.specs.Streams.{change}
 use Rattle.lb_command.specs.Warnings.{IsWarned}

@@ -1,5 +1,5 @@
 use Rattle.std.proofs.Common.{◌≤◌, List, ℕ, length, subst, take}
-use Rattle.lb_pool.specs.Taken.{Takes}
+use Rattle.lb_output.specs.Taken.{Takes}
 use Rattle.lb_command.specs.Outcomes.IsDelivered.{whole}
 use Rattle.lb_command.proofs.Deliveries.{broken_by}
 use Rattle.lb_command.proofs.delivery.deliver.Goals as goal

@@ -1,5 +1,5 @@
 use Rattle.std.proofs.Math.Seq.{take-length}
-use Rattle.lb_pool.proofs.SinkBytes.{taken_and_kept}
+use Rattle.lb_output.proofs.SinkBytes.{taken_and_kept}
 use Rattle.lb_command.proofs.delivery.put.Goals as goal
 
 pub returns-in-Err-clause-first : goal.returns-in-Err-clause-first

@@ -1,6 +1,6 @@
 use Rattle.std.proofs.Common.{List, ℕ, map, refl, subst, sym}
 use Rattle.std.specs.Prelude.{string_bytes}
-use Rattle.lb_pool.proofs.SinkBytes.{takes_nothing}
+use Rattle.lb_output.proofs.SinkBytes.{takes_nothing}
 use Rattle.lb_command.specs.Judging.IsJudgingRun.{answered, refused}
 use Rattle.lb_command.specs.Warnings.{AreWarnings}
 use Rattle.lb_command.specs.declared.answer.Answer.TheVariants.{OfSource}

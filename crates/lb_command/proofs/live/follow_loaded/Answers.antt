@@ -1,5 +1,5 @@
 use Rattle.std.proofs.Common.{refl}
-use Rattle.lb_pool.proofs.SinkBytes.{takes_nothing}
+use Rattle.lb_output.proofs.SinkBytes.{takes_nothing}
 use Rattle.lb_command.proofs.Living.{live_of, tells_of_file, unread_with}
 use Rattle.lb_command.proofs.live.follow_loaded.Goals as goal
 

@@ -1,5 +1,5 @@
 use Rattle.std.proofs.Common.{Global, Result, Vec, ℕ, subst}
-use Rattle.lb_pool.specs.declared.follow_error.FollowError.{FollowError}
+use Rattle.lb_output.specs.declared.follow_error.FollowError.{FollowError}
 use Rattle.lb_command.specs.Live.{GoesTo}
 use Rattle.lb_command.specs.Streams.{change}
 use Rattle.lb_command.proofs.Living.{live_run}

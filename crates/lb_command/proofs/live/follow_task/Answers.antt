@@ -1,6 +1,6 @@
 use Rattle.std.proofs.Common.{refl, subst}
 use Rattle.clap.specs.Words.{Text}
-use Rattle.lb_pool.proofs.SinkBytes.{takes_nothing}
+use Rattle.lb_output.proofs.SinkBytes.{takes_nothing}
 use Rattle.lb_command.specs.Outcomes.{AreTexts, HasPath, IsLoaded}
 use Rattle.lb_command.proofs.Living.{live_of, live_on, unread_with}
 use Rattle.lb_command.proofs.live.follow_task.Goals as goal

@@ -1,7 +1,7 @@
 use Rattle.std.proofs.Common.{inr, refl}
 use Rattle.lb_command.specs.Merging.IsMergeRun.{refused}
 use Rattle.lb_command.proofs.Concluding.{no_earlier}
-use Rattle.lb_pool.proofs.SinkBytes.{takes_nothing}
+use Rattle.lb_output.proofs.SinkBytes.{takes_nothing}
 use Rattle.lb_command.proofs.merging.run_compared.Goals as goal
 
 pub returns-in-Err : goal.returns-in-Err

@@ -4,7 +4,7 @@ use Rattle.lb_command.specs.Merging.IsMergeRun.{answered, refused}
 use Rattle.lb_command.specs.Outcomes.{IsDelivered}
 use Rattle.lb_command.specs.Streams.{change}
 use Rattle.lb_command.specs.declared.answer.Answer.TheVariants.{OfTraces}
-use Rattle.lb_pool.proofs.SinkBytes.{takes_nothing}
+use Rattle.lb_output.proofs.SinkBytes.{takes_nothing}
 use Rattle.lb_command.proofs.merging.run_measured.Goals as goal
 
 pub returns-in-Ok : goal.returns-in-Ok

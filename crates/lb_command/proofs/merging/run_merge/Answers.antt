@@ -1,6 +1,6 @@
 use Rattle.std.proofs.Common.{inl, inr, refl}
 use Rattle.lb_command.specs.Merging.IsMergeRun.{refused}
-use Rattle.lb_pool.proofs.SinkBytes.{takes_nothing}
+use Rattle.lb_output.proofs.SinkBytes.{takes_nothing}
 use Rattle.lb_command.proofs.merging.run_merge.Goals as goal
 
 pub returns-in-Err : goal.returns-in-Err

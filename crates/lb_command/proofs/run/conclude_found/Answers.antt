@@ -1,7 +1,7 @@
 use Rattle.std.proofs.Common.{◌≡◌, ◌++◌, ◌∙◌, ap, subst, sym, List, ℕ, Vec}
 use Rattle.std.specs.Global.{Global}
 use Rattle.std.specs.Prelude.{string_bytes}
-use Rattle.lb_pool.specs.declared.text.Report.{Report}
+use Rattle.lb_output.specs.declared.text.Report.{Report}
 use Rattle.lb_command.specs.Conclusions.{IsConcluded}
 use Rattle.lb_command.proofs.run.conclude_found.Goals as goal
 

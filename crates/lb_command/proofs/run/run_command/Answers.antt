@@ -1,6 +1,6 @@
 use Rattle.std.proofs.Common.{map, refl, subst}
 use Rattle.std.specs.Prelude.{string_bytes}
-use Rattle.lb_pool.proofs.SinkBytes.{takes_nothing}
+use Rattle.lb_output.proofs.SinkBytes.{takes_nothing}
 use Rattle.lb_words.specs.Words.{AsksForHelp, AsksForVersion, IsAsked, IsRequest}
 use Rattle.lb_words.specs.declared.request.Request.{Request}
 use Rattle.lb_command.specs.Correct.IsRun.{asked, refused, told}

@@ -1,7 +1,7 @@
 use Rattle.std.proofs.Common.{refl}
 use Rattle.lb_command.specs.Correct.IsWholeRun.{no_baseline}
 use Rattle.lb_command.proofs.Concluding.{no_earlier}
-use Rattle.lb_pool.proofs.SinkBytes.{takes_nothing}
+use Rattle.lb_output.proofs.SinkBytes.{takes_nothing}
 use Rattle.lb_command.proofs.run.run_compared.Goals as goal
 
 pub returns-in-Err : goal.returns-in-Err

@@ -1,5 +1,5 @@
 use Rattle.std.proofs.Common.{inl, refl}
-use Rattle.lb_pool.proofs.SinkBytes.{takes_nothing}
+use Rattle.lb_output.proofs.SinkBytes.{takes_nothing}
 use Rattle.lb_command.specs.Correct.IsWholeRun.{no_baseline}
 use Rattle.lb_command.proofs.run.run_whole.Goals as goal
 

@@ -1,5 +1,5 @@
 use Rattle.std.proofs.Common.{Global, Vec, ℕ, inl, refl}
-use Rattle.lb_pool.proofs.SinkBytes.{takes_nothing}
+use Rattle.lb_output.proofs.SinkBytes.{takes_nothing}
 use Rattle.lb_command.proofs.Showings.{showing_on}
 use Rattle.lb_command.proofs.showing.show_task.Goals as goal
 

@@ -1,5 +1,5 @@
 use Rattle.std.proofs.Common.{Err, Global, Ok, Vec, ℕ, refl}
-use Rattle.lb_pool.proofs.SinkBytes.{takes_nothing}
+use Rattle.lb_output.proofs.SinkBytes.{takes_nothing}
 use Rattle.lb_command.specs.Streams.{change}
 use Rattle.lb_command.proofs.Showings.{out_of_memory, showing_in, shown_of, unshown_of}
 use Rattle.lb_command.proofs.showing.show_texts.Goals as goal

@@ -1,5 +1,5 @@
 use Rattle.std.proofs.Common.{◌≡◌, ◌∙◌, ◌+◌, arith, inr, length, vec_len}
-use Rattle.lb_pool.proofs.Counts.{count_more-twice}
+use Rattle.lb_output.proofs.Counts.{count_more-twice}
 use Rattle.lb_report.proofs.FeedBytes.{Consumes-filled, too_long}
 use Rattle.lb_report.proofs.feed.load.Goals as goal
 

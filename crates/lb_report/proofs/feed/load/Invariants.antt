@@ -1,6 +1,6 @@
 use Rattle.std.proofs.Common.{◌≡◌, ◌≤◌, ◌+◌, ◌-◌, ℕ, List, Option, Vec, Global, vec_len, take}
 use Rattle.std.specs.Io.KnownBytes.{Consumes}
-use Rattle.lb_pool.specs.Counts.{count_more}
+use Rattle.lb_output.specs.Counts.{count_more}
 use Rattle.lb_report.specs.declared.feed.TheConstants.{INPUT_LIMIT}
 use Rattle.lb_report.proofs.feed.load.Given as goal
 

@@ -2,7 +2,7 @@
 use Rattle.std.proofs.Common.{◌≡◌, Result, Ok, Err, arith, subst, sym}
 use Rattle.std.specs.Result.{IsErrAnd}
 use Rattle.lb_syntax.specs.Tokens.{Text}
-use Rattle.lb_pool.specs.declared.text.Report.{Report}
+use Rattle.lb_output.specs.declared.text.Report.{Report}
 use Rattle.lb_report.specs.Bench.{program_of}
 use Rattle.lb_report.specs.FeedAnswers.{IsFeedAnswer}
 use Rattle.lb_report.specs.Windows.{Left, left}

@@ -5,7 +5,7 @@ use Rattle.std.proofs.Common.{subst, take}
 use Rattle.std.proofs.lemmas.Result.{IfErr-weaker, IfOk-weaker}
 use Rattle.std.specs.List.{range_with_len}
 use Rattle.lb_trace.specs.declared.error.TraceError.TheVariants.{Memory}
-use Rattle.lb_pool.proofs.GoingOut.{passes_on}
+use Rattle.lb_output.proofs.GoingOut.{passes_on}
 use Rattle.lb_report.specs.Ranges.{AreRangesJudged, IsRangesHalt}
 use Rattle.lb_report.specs.SectionEnds.{start_of}
 use Rattle.lb_report.specs.Sections.{IsHaltAfter, lines_of}

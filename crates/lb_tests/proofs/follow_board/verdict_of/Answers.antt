@@ -2,7 +2,7 @@
 use Rattle.std.proofs.lemmas.Result.{IfOk-weaker}
 use Rattle.lb_flat.specs.Correct.{IsVerdictOf}
 use Rattle.lb_flat.specs.Programs.{program_of}
-use Rattle.lb_pool.specs.FollowSeats.{right_of}
+use Rattle.lb_board.specs.FollowSeats.{right_of}
 use Rattle.lb_pool.proofs.RightTraces.{right_to_post}
 use Rattle.lb_tests.proofs.follow_board.verdict_of.Goals as goal
 

@@ -1,5 +1,5 @@
 use Rattle.std.proofs.Common.{◌≡◌}
-use Rattle.lb_pool.specs.Seats.{IsSeatOf, shares_of}
+use Rattle.lb_board.specs.Seats.{IsSeatOf, shares_of}
 use Rattle.lb_tests.proofs.pool.push_draws.Given as goal
 
 abbrev pub invariant-loop-turn : goal.invariant-loop-turn

@@ -1,4 +1,4 @@
-use Rattle.lb_pool.specs.Seats.{IsSeatOf}
+use Rattle.lb_board.specs.Seats.{IsSeatOf}
 use Rattle.lb_tests.proofs.pool.push_moves.Given as goal
 
 abbrev pub invariant-loop-turn : goal.invariant-loop-turn

@@ -1,5 +1,5 @@
 -- Pieces are read until one has a line, or all that there is.
-use Rattle.lb_pool.proofs.GoingOut.{passes_on}
+use Rattle.lb_output.proofs.GoingOut.{passes_on}
 use Rattle.lb_report.specs.Windows.{IsLoadFault, left}
 use Rattle.lb_report.specs.declared.feed.LoadError.{LoadError}
 use Rattle.lb_report.proofs.WindowReads.{fault_on, taken_on}

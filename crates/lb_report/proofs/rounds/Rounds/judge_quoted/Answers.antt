@@ -2,7 +2,7 @@
 use Rattle.std.proofs.Common.{◌∷◌, List, ap}
 use Rattle.std.proofs.lemmas.Result.{IfErr-weaker, IfOk-weaker}
 use Rattle.lb_trace.specs.Spelling.{Record}
-use Rattle.lb_pool.proofs.GoingOut.{passes_on}
+use Rattle.lb_output.proofs.GoingOut.{passes_on}
 use Rattle.lb_report.specs.JudgedParts.{HasRoll, IsPartRead, IsRestHalted, IsRestJudged}
 use Rattle.lb_report.specs.declared.rounds.Halt.{Halt}
 use Rattle.lb_report.specs.declared.rounds.Halt.TheVariants.{Load}

@@ -2,7 +2,7 @@
 use Rattle.std.proofs.Common.{◌≡◌, ◌∙◌, ℕ, List, ap, false, refl, rules, sym, take}
 use Rattle.lb_trace.specs.Plain.{has_quote, plain_records}
 use Rattle.lb_trace.specs.Tables.{has_header}
-use Rattle.lb_pool.proofs.GoingOut.{passes_on}
+use Rattle.lb_output.proofs.GoingOut.{passes_on}
 use Rattle.lb_report.specs.JudgedParts.{IsHeadHalted}
 use Rattle.lb_report.specs.Windows.{left}
 use Rattle.lb_report.specs.declared.rounds.Halt.{Halt}

@@ -1,4 +1,4 @@
-use Rattle.lb_pool.proofs.GoingOut.{passes_on}
+use Rattle.lb_output.proofs.GoingOut.{passes_on}
 use Rattle.lb_report.specs.Windows.{IsLoadFault, left}
 use Rattle.lb_report.specs.declared.feed.LoadError.{LoadError}
 use Rattle.lb_report.proofs.WindowReads.{fault_on, read_none, read_on}

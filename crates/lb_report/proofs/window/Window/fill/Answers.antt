@@ -1,7 +1,7 @@
 use Rattle.std.proofs.Common.{arith, inl, inr}
 use Rattle.lb_report.specs.Windows.{IsLoadFault, left}
 use Rattle.lb_report.specs.declared.feed.LoadError.{LoadError}
-use Rattle.lb_pool.proofs.GoingOut.{passes_on}
+use Rattle.lb_output.proofs.GoingOut.{passes_on}
 use Rattle.lb_report.proofs.WindowReads.{fault_on, taken_none, taken_on}
 use Rattle.lb_report.proofs.window.Window.fill.Goals as goal
 

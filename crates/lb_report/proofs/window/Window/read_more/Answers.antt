@@ -2,7 +2,7 @@
 use Rattle.std.proofs.Common.{◌≡◌, ◌∙◌, ◌<◌, ◌≤◌, ◌+◌, ◌-◌, ap, arith, drop, eqb-true}
 use Rattle.std.proofs.Common.{length, rules, sym, take}
 use Rattle.std.proofs.lemmas.List.{length-take-le}
-use Rattle.lb_pool.specs.Counts.{count_more}
+use Rattle.lb_output.specs.Counts.{count_more}
 use Rattle.lb_report.specs.Windows.{ended_by}
 use Rattle.lb_report.proofs.WindowTexts.{range_behind, read_behind}
 use Rattle.lb_report.proofs.window.Window.read_more.Goals as goal
