@@ -4,4 +4,5 @@ pub mod Failures
 pub mod Heads
 pub mod Parts
 pub mod Ranges
+pub mod Skips
 pub mod Windows

@@ -10,8 +10,10 @@ mod head;
 mod load;
 mod part;
 mod range;
+mod skips;
 mod window;
 
 pub use load::{PartError, load_part};
 pub use part::Part;
 pub use range::{FileRanges, RangeFailed, Ranges, TextRanges};
+pub use skips::{Skipped, count_skipped};

@@ -59,7 +59,7 @@ impl From<RangeFailed> for PartError {
 }
 
 /// The number of bytes to read first, where it is not known how many are needed.
-const STEP: u64 = 1 << 16;
+pub(crate) const STEP: u64 = 1 << 16;
 
 /// Appends the bytes of a text from `from` to `to`.
 fn extend<R: Ranges>(bytes: &mut Vec<u8>, text: &R, from: u64, to: u64) -> Result<(), PartError>
@@ -77,7 +77,12 @@ fn extend<R: Ranges>(bytes: &mut Vec<u8>, text: &R, from: u64, to: u64) -> Resul
 }
 
 /// The bytes of a text from `from` to `to`.
-fn load<R: Ranges>(alloc: Global, text: &R, from: u64, to: u64) -> Result<Vec<u8>, PartError>
+pub(crate) fn load<R: Ranges>(
+    alloc: Global,
+    text: &R,
+    from: u64,
+    to: u64,
+) -> Result<Vec<u8>, PartError>
     requires { to ≤ MOST_BYTES }
     ensures length { IfOk result (λ bytes. vec_len bytes ≡ to - from) }
     ensures range { IfOk result (λ bytes. OfKnown (R.bytes text.now) (λ all.
@@ -90,7 +95,7 @@ fn load<R: Ranges>(alloc: Global, text: &R, from: u64, to: u64) -> Result<Vec<u8
 }
 
 /// The head of a text, up to the end of its first record; the whole text where no record ends.
-fn load_head<R: Ranges>(alloc: Global, text: &R, size: u64) -> Result<Vec<u8>, PartError>
+pub(crate) fn load_head<R: Ranges>(alloc: Global, text: &R, size: u64) -> Result<Vec<u8>, PartError>
     requires size { OfKnown (R.bytes text.now) (λ all. size ≡ length all) }
     requires most { size ≤ MOST_BYTES }
     ensures within { IfOk result (λ head. vec_len head ≤ size) }
@@ -111,7 +116,7 @@ fn load_head<R: Ranges>(alloc: Global, text: &R, size: u64) -> Result<Vec<u8>, P
 }
 
 /// The first place, at `place` or behind it, where a text with a head of `head` bytes can be cut.
-fn cut<R: Ranges>(
+pub(crate) fn cut<R: Ranges>(
     alloc: Global,
     text: &R,
     head: u64,
