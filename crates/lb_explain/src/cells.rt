@@ -6,7 +6,7 @@ use crate::excerpt::{put_excerpt, put_place};
 use crate::instants::instant_of;
 use crate::page::Page;
 use crate::quoted::{CellPlace, cell_at, decoded, end_of_record, width};
-use crate::texts::{Stretch, line_start, spot_in};
+use crate::texts::{Stretch, record_line, spot_in};
 use lb_places::{Cursor, Text, header_and_record, input_named};
 use lb_static::Signature;
 use lb_syntax::Kind;
@@ -43,7 +43,7 @@ pub fn put_cell(page: &mut Page, cell: &[u8]) {
 /// The place of some bytes of a record in its text.
 pub fn stretch_of(text: &Text<'_>, record: &Cursor, start: usize, end: usize) -> Stretch {
     let inner = count(part(text.bytes, record.at, start), b'\n') as u64;
-    let begin = line_start(text.bytes, start);
+    let begin = record_line(text, start);
     spot_in(text, record.lines.saturating_add(inner), begin, start, end)
 }
 
@@ -57,13 +57,25 @@ pub fn cell_of(page: &mut Page, text: &[u8], start: usize, place: usize) -> Vec<
 }
 
 /// Puts the trace, the instant and the number of a record.
-pub fn put_record(page: &mut Page, text: &[u8], record: &Cursor) {
-    let name = cell_of(page, text, record.at, 0);
+pub fn put_record(page: &mut Page, text: &Text<'_>, record: &Cursor) {
+    let name = cell_of(page, text.bytes, record.at, 0);
     page.put("in trace ");
     put_cell(page, name.as_slice());
-    let instant = instant_of(text, record, name.as_slice());
+    let instant = instant_of(text.bytes, record, name.as_slice());
     page.put_number_in(", instant ", instant, ", record ");
-    page.put_number_in("", record.records, "\n");
+    page.put_number_in("", number_of(text, record), "\n");
+}
+
+/// The number of a record in its file, from 1 on for the first one behind the header.
+pub fn number_of(text: &Text<'_>, record: &Cursor) -> u64 {
+    text.records_before.saturating_add(record.records)
+}
+
+/// Puts how to mend a fault, unless that is empty.
+pub fn put_help(page: &mut Page, mend: &str) {
+    if !mend.is_empty() {
+        page.put_in("help: ", mend, "\n");
+    }
 }
 
 /// The hint where a line has no commas, but has `;` or tabs; else empty.
@@ -72,13 +84,16 @@ pub fn separator_mend(line: &[u8]) -> &'static str {
         return "";
     }
     if count(line, b';') > 0 {
-        return "help: it looks parted by `;`; cells are parted by `,`\n";
+        return "it looks parted by `;`; cells are parted by `,`";
     }
     if count(line, b'\t') > 0 {
-        return "help: it looks parted by tabs; cells are parted by `,`\n";
+        return "it looks parted by tabs; cells are parted by `,`";
     }
     ""
 }
+
+/// The help for a quoted cell that has an end of a line in it.
+const QUOTED: &str = "a `\"` that begins a cell goes on to the next `\"`, over ends of lines too";
 
 /// The bytes to mark of a record of a wrong length: the cells that are too many, or the whole
 /// record where cells are missing.
@@ -96,13 +111,32 @@ fn marked(text: &[u8], record: &Cursor, columns: usize) -> CellPlace {
     }
 }
 
+/// The help for a comment.
+pub const NO_COMMENTS: &str = "a text of traces has no comments";
+
+/// Whether a line has nothing but spaces and tabs.
+fn is_blank(line: &[u8]) -> bool {
+    for b in line {
+        if !matches!(*b, b' ' | b'\t') {
+            return false;
+        }
+    }
+    true
+}
+
 /// How to mend a record of a wrong length, for common mistakes; else empty.
 fn length_mend(line: &[u8], cells: usize, columns: usize) -> &'static str {
+    if line.starts_with(b"#".as_slice()) {
+        return NO_COMMENTS;
+    }
+    if is_blank(line) {
+        return "a line of spaces is a record too; an empty line is none";
+    }
     if cells == columns.saturating_add(1) && line.ends_with(b",".as_slice()) {
-        return "help: a comma at the end of a line begins one more cell\n";
+        return "a comma at the end of a line begins one more cell";
     }
     if count(line, b'\n') > 0 {
-        return "help: a `\"` that begins a cell goes on to the next `\"`, over ends of lines too\n";
+        return QUOTED;
     }
     separator_mend(line)
 }
@@ -130,8 +164,11 @@ fn put_length(page: &mut Page, text: &Text<'_>, record: &Cursor, cells: usize, c
     page.put_number_in(", and the header has ", columns as u64, "\n");
     put_excerpt(page, text, &place);
     let end = end_of_record(text.bytes, record.at);
-    page.put(length_mend(part(text.bytes, record.at, end), cells, columns));
-    put_record(page, text.bytes, record);
+    put_help(
+        page,
+        length_mend(part(text.bytes, record.at, end), cells, columns),
+    );
+    put_record(page, text, record);
 }
 
 /// Whether a cell is 1 to 20 digits, with or without a minus sign before them.
@@ -179,9 +216,11 @@ fn natural_of(cell: &[u8]) -> u64 {
     n
 }
 
-/// Whether a cell begins or ends with white space.
+/// Whether a cell begins or ends with white space; a no-break space is white space too.
 pub fn is_padded(cell: &[u8]) -> bool {
     matches!(cell, [b' ' | b'\t', ..] | [.., b' ' | b'\t'])
+        || cell.starts_with(b"\xC2\xA0".as_slice())
+        || cell.ends_with(b"\xC2\xA0".as_slice())
 }
 
 /// The mend of a cell of an integer column; empty where the cell is an integer in range.
@@ -200,22 +239,31 @@ fn mend_of_int(cell: &[u8]) -> &'static str {
 
 /// The mend of another cell of an integer column, by the characters in it.
 fn mend_of_digits(cell: &[u8]) -> &'static str {
-    if count(cell, b'.') == 1 && has_digits_alone_but(cell, b'.') {
+    if count(cell, b'.') == 1 && has_digits_alone_but(cell, b".".as_slice()) {
         return "write the number without a point; scale it if need be";
     }
-    if count(cell, b'e') == 1 && has_digits_alone_but(cell, b'e') {
+    if count(cell, b',') == 1 && has_digits_alone_but(cell, b",".as_slice()) {
+        return "write the number without a comma; scale it if need be";
+    }
+    if is_power_of_ten(cell) {
         return "write the number without an exponent";
     }
-    if cell == b"true".as_slice() || cell == b"false".as_slice() {
+    if cell.eq_ignore_ascii_case(b"true") || cell.eq_ignore_ascii_case(b"false") {
         return "this column is of int; write 1 or 0";
     }
     "write at most 20 digits, with or without a `-` before them"
 }
 
-/// Whether all bytes are digits, `+`, `-` or `sign`.
-fn has_digits_alone_but(bytes: &[u8], sign: u8) -> bool {
+/// Whether a cell is a number with an exponent, as `1.5e3` and `15E+02`.
+fn is_power_of_ten(cell: &[u8]) -> bool {
+    let letters = count(cell, b'e').saturating_add(count(cell, b'E'));
+    letters == 1 && has_digits_alone_but(cell, b".eE".as_slice())
+}
+
+/// Whether all bytes are digits, `+`, `-` or one of `signs`.
+fn has_digits_alone_but(bytes: &[u8], signs: &[u8]) -> bool {
     for b in bytes {
-        if !b.is_ascii_digit() && *b != sign && *b != b'-' && *b != b'+' {
+        if !b.is_ascii_digit() && !matches!(*b, b'-' | b'+') && count(signs, *b) == 0 {
             return false;
         }
     }
@@ -256,6 +304,9 @@ fn put_no_value(page: &mut Page, column: &[u8], kind: Kind, cell: &[u8]) {
 
 /// The mend of a cell; empty where it is a value of its kind.
 fn mend_of(kind: Kind, cell: &[u8]) -> &'static str {
+    if count(cell, b'\n') > 0 {
+        return QUOTED;
+    }
     match kind {
         Kind::Int => mend_of_int(cell),
         Kind::Bool if is_bool(cell) => "",
@@ -283,7 +334,7 @@ fn put_value(
     put_no_value(page, name, kind, value);
     put_excerpt(page, text, &place);
     page.put_in("help: ", mend, "\n");
-    put_record(page, text.bytes, record);
+    put_record(page, text, record);
 }
 
 /// Explains E16 for the record with a number; `column` counts the columns after `trace` from 0.

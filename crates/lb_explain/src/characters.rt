@@ -5,6 +5,7 @@ use crate::excerpt::put_excerpt;
 use crate::lexeme::{Sort, piece_at};
 use crate::page::Page;
 use crate::texts::{offset_of, spot};
+use crate::words::mend_of_word;
 use lb_places::Text;
 
 /// Whether `(*` or `/*` stands at a place.
@@ -22,7 +23,8 @@ fn mend_of(first: u8, second: u8) -> &'static str {
         (b'"' | b'\'', _) => "there are no strings and no includes in the language",
         (b'{' | b'}', _) => "structures, enumerations and blocks are not in the language",
         (b'~', _) => "negation is written `not`, and the sign of a number `-`",
-        (b'$' | b'@' | b'?' | b'\\' | b'`', _) => "names have letters, digits and `_`",
+        (b'?', _) => "`if` chooses a value: `if c then a else b`",
+        (b'$' | b'@' | b'\\' | b'`', _) => "names have letters, digits and `_`",
         _ => mend_of_byte(first, second),
     }
 }
@@ -80,6 +82,16 @@ fn put_marked(page: &mut Page, text: &Text<'_>, at: usize, end: usize, mend: &st
     }
 }
 
+/// The mend of the bytes at a place that begin no comment: the byte there, and the one behind it.
+/// In `last 'x` the word before them counts.
+fn mend_at(text: &[u8], at: usize) -> &'static str {
+    let first = byte_at(text, at);
+    if first == b'\'' && part(text, at.saturating_sub(5), at) == b"last ".as_slice() {
+        return mend_of_word(b"last");
+    }
+    mend_of(first, byte_at(text, at.saturating_add(1)))
+}
+
 /// The number of bytes to mark, by the byte at a place and the one behind it.
 fn marked(first: u8, second: u8) -> usize {
     match (first, second) {
@@ -99,6 +111,6 @@ pub fn explain_character(page: &mut Page, text: &Text<'_>, line: u32, column: u3
     } else {
         put_cause(page, text.bytes, at);
         let end = at.saturating_add(marked(first, second));
-        put_marked(page, text, at, end, mend_of(first, second));
+        put_marked(page, text, at, end, mend_at(text.bytes, at));
     }
 }

@@ -60,7 +60,7 @@ fn waiting_at(text: &[u8], word: Lexeme) -> Waiting {
 }
 
 /// The name of a variable where the node declares it.
-fn declaration_of(node: &NodeText<'_>, name: &[u8]) -> Option<Lexeme> {
+pub fn declaration_of(node: &NodeText<'_>, name: &[u8]) -> Option<Lexeme> {
     let text = node.text;
     let mut at = node.heading;
     for _turn in node.heading..text.len() {

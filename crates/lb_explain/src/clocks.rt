@@ -222,11 +222,22 @@ fn put_origins(page: &mut Page, text: &Text<'_>, fault: &ClockFault) {
     }
 }
 
+/// Whether the base clock was found.
+fn is_on_base(fault: &ClockFault) -> bool {
+    match &fault.found {
+        Some(clock) => clock.signs.is_empty(),
+        None => false,
+    }
+}
+
 /// How to mend it, for common mistakes; else empty.
-fn mend_of(rule: ClockRule) -> &'static str {
-    match rule {
+fn mend_of(fault: &ClockFault) -> &'static str {
+    match fault.rule {
         ClockRule::Operand(_) | ClockRule::Left(_) | ClockRule::Argument(_) => {
             "help: `e when c` puts e on the clock of c, `current e` takes it off again\n"
+        }
+        ClockRule::Current if is_on_base(fault) => {
+            "help: what is on the base clock has a value at each instant; leave out `current`\n"
         }
         _ => "",
     }
@@ -237,6 +248,6 @@ pub fn explain_clock(page: &mut Page, text: &Text<'_>, fault: &ClockFault) {
     put_rule(page, text, fault);
     put_marked(page, text, fault.offset);
     put_origins(page, text, fault);
-    page.put(mend_of(fault.rule));
+    page.put(mend_of(fault));
     put_path(page, text, &fault.path);
 }

@@ -1,7 +1,9 @@
 //! E14: a header that does not name the inputs.
 
-use crate::bytes::part;
-use crate::cells::{cell_of, is_padded, put_cell, separator_mend, stretch_of};
+use crate::bytes::{count, part};
+use crate::cells::{
+    NO_COMMENTS, cell_of, is_padded, put_cell, put_help, separator_mend, stretch_of,
+};
 use crate::excerpt::{put_excerpt, put_place};
 use crate::near::{Nearest, differ_in_case};
 use crate::page::Page;
@@ -45,6 +47,11 @@ impl Header {
             Some(name) => name.as_slice(),
             None => b"",
         }
+    }
+
+    /// Whether one of the columns has this name, the first one too.
+    fn has(&self, name: &[u8]) -> bool {
+        self.first.as_slice() == name || has_name(self.names.as_slice(), name)
     }
 }
 
@@ -104,7 +111,7 @@ fn put_missing(page: &mut Page, signature: &Signature, header: &Header) {
     let mut found: usize = 0;
     for i in 0..signature.len() {
         let name = signature.name(i);
-        if !has_name(header.names.as_slice(), name.as_bytes()) {
+        if !header.has(name.as_bytes()) {
             page.put(part_of_list("missing: ", found));
             if found < MOST {
                 page.put(name);
@@ -151,32 +158,101 @@ fn put_unknown(page: &mut Page, signature: &Signature, header: &Header) {
     end_list(page, found);
 }
 
-/// Puts the input that an unknown column may be meant for.
-fn put_nearest(page: &mut Page, signature: &Signature, name: &[u8]) {
+/// Puts that an input is similar to the name of an unknown column.
+fn put_similar(page: &mut Page, name: &[u8], other: &[u8]) {
+    page.put("help: a similar input is ");
+    put_cell(page, other);
+    page.put(if differ_in_case(name, other) {
+        "; case counts\n"
+    } else {
+        "\n"
+    });
+}
+
+/// Whether an element of an array with this name is an input.
+fn is_array(signature: &Signature, name: &[u8]) -> bool {
+    for i in 0..signature.len() {
+        if let Some([b'[', ..]) = signature.name(i).as_bytes().strip_prefix(name) {
+            return true;
+        }
+    }
+    false
+}
+
+/// Whether each input has a column.
+fn is_complete(signature: &Signature, header: &Header) -> bool {
+    for i in 0..signature.len() {
+        if !header.has(signature.name(i).as_bytes()) {
+            return false;
+        }
+    }
+    true
+}
+
+/// Puts the input that an unknown column may be meant for, or what else may be meant.
+fn put_unknown_mend(page: &mut Page, signature: &Signature, header: &Header, name: &[u8]) {
     let mut nearest = Nearest::to(name);
     for i in 0..signature.len() {
         nearest.offer(name, signature.name(i).as_bytes());
     }
-    if let Some(other) = nearest.name {
-        page.put("help: a similar input is ");
-        put_cell(page, other);
-        page.put(if differ_in_case(name, other) {
-            "; case counts\n"
-        } else {
-            "\n"
-        });
+    if is_array(signature, name) {
+        return page.put("help: an array has a column for each of its elements\n");
+    }
+    match nearest.name {
+        Some(other) => put_similar(page, name, other),
+        None if is_complete(signature, header) => {
+            page.put("help: leave out each column that is no input\n");
+        }
+        None => {}
     }
 }
 
-/// Puts how to mend a wrong column.
-fn put_mend(page: &mut Page, signature: &Signature, fault: Fault, name: &[u8]) {
-    if is_padded(name) {
-        return page.put("help: no space may stand beside a name\n");
+/// The mend of a first cell that is not `trace`.
+fn first_mend(name: &[u8]) -> &'static str {
+    if differ_in_case(name, b"trace") {
+        return "case counts";
     }
+    if name.starts_with(b"#".as_slice()) {
+        return NO_COMMENTS;
+    }
+    if name.starts_with(b"sep=".as_slice()) {
+        return "leave out the line that names the separator";
+    }
+    if count(name, 0) > 0 {
+        return "save the file as UTF-8, not as UTF-16";
+    }
+    "the first cell of each record names its trace"
+}
+
+/// The mend of a wrong column that is none of an unknown name; empty where there is none.
+fn plain_mend(line: &[u8], fault: Fault, name: &[u8]) -> &'static str {
+    if is_padded(name) {
+        return "no space may stand beside a name";
+    }
+    let separator = separator_mend(line);
     match fault {
-        Fault::Unknown => put_nearest(page, signature, name),
-        Fault::First if differ_in_case(name, b"trace") => page.put("help: case counts\n"),
-        Fault::First | Fault::Doubled => {}
+        Fault::First if separator.is_empty() || name.starts_with(b"sep=".as_slice()) => {
+            first_mend(name)
+        }
+        _ => separator,
+    }
+}
+
+/// Puts how to mend a wrong column of the header in a line.
+fn put_mend(
+    page: &mut Page,
+    signature: &Signature,
+    header: &Header,
+    line: &[u8],
+    fault: (usize, Fault),
+) {
+    let (column, fault) = fault;
+    let name = header.name_at(column);
+    let mend = plain_mend(line, fault, name);
+    if mend.is_empty() && fault == Fault::Unknown {
+        put_unknown_mend(page, signature, header, name);
+    } else {
+        put_help(page, mend);
     }
 }
 
@@ -226,9 +302,9 @@ fn put_lists(
     put_missing(page, signature, header);
     put_unknown(page, signature, header);
     let end = end_of_record(text, header.start.at);
-    page.put(separator_mend(part(text, header.start.at, end)));
-    if let Some((column, fault)) = fault {
-        put_mend(page, signature, fault, header.name_at(column));
+    if let Some(fault) = fault {
+        let line = part(text, header.start.at, end);
+        put_mend(page, signature, header, line, fault);
     }
     put_wanted(page, signature);
 }

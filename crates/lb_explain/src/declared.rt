@@ -105,6 +105,33 @@ pub fn nearest_of<'t>(
     nearest.name
 }
 
+/// Whether the source declares a constant with this name.
+pub fn is_constant(text: &[u8], name: &[u8]) -> bool {
+    let search = Search {
+        text,
+        node: b"",
+        sorts: Sorts {
+            nodes: false,
+            variables: false,
+            constants: true,
+        },
+    };
+    let mut region = Region::Elsewhere;
+    let mut at = 0;
+    for _turn in 0..text.len() {
+        let token = piece_at(text, at);
+        if token.sort == Sort::End {
+            return false;
+        }
+        if region == Region::ConstantName && token.sort == Sort::Name && token.of(text) == name {
+            return true;
+        }
+        region = after(&search, region, &token);
+        at = token.end;
+    }
+    false
+}
+
 /// The place behind the name of the node with this name, where it is declared.
 pub fn node_named(text: &[u8], name: &[u8]) -> Option<usize> {
     let mut at = 0;

@@ -5,7 +5,7 @@
 //!       |           ^^^^
 //! ```
 
-use crate::bytes::{continues, part};
+use crate::bytes::{continues, find, part};
 use crate::page::Page;
 use crate::texts::{Stretch, line_at};
 use lb_places::Text;
@@ -147,8 +147,9 @@ fn put_margin(page: &mut Page, line: u64) {
 
 /// Puts the line of a stretch, and marks below the stretch.
 pub fn put_excerpt(page: &mut Page, text: &Text<'_>, spot: &Stretch) {
-    let line = line_at(text.bytes, spot.line_start);
-    let at = spot.start.saturating_sub(spot.line_start).min(line.len());
+    let whole = line_at(text.bytes, spot.line_start);
+    let at = spot.start.saturating_sub(spot.line_start).min(whole.len());
+    let line = part(whole, 0, find(whole, at, b'\r'));
     let shown = whole_window(line, at);
     put_margin(page, spot.line);
     put_bytes(page, part(line, shown.from, shown.to));

@@ -24,6 +24,7 @@ mod interfaces;
 mod landmarks;
 mod lexeme;
 mod marking;
+mod mistakes;
 mod names;
 mod near;
 mod page;

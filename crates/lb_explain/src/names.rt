@@ -1,7 +1,8 @@
 //! E4: a name that is unknown or doubled, or has the wrong number of static arguments.
 
+use crate::clock_places::{NodeText, declaration_of};
 use crate::counts::put_count;
-use crate::declared::{Sorts, nearest_of};
+use crate::declared::{Sorts, is_constant, nearest_of};
 use crate::excerpt::put_bytes;
 use crate::marking::{put_marked, put_note};
 use crate::page::Page;
@@ -36,18 +37,59 @@ fn node_of(fault: &NameFault) -> &str {
     }
 }
 
-/// Puts the declared name that is nearest to one that is unknown, if one is near.
+/// Whether the node that a name stands in declares a variable of that name.
+fn is_variable(text: &[u8], fault: &NameFault) -> bool {
+    let node = NodeText::named(text, node_of(fault));
+    declaration_of(&node, fault.name.as_bytes()).is_some()
+}
+
+/// Puts why a variable is no static value: it may hide a constant.
+fn put_hidden(page: &mut Page, text: &[u8], fault: &NameFault) {
+    let name = fault.name.as_str();
+    page.put_in("help: `", name, "` is a variable of this node");
+    if is_constant(text, name.as_bytes()) {
+        page.put(", and hides the constant in all of it; give one of them another name\n");
+    } else {
+        page.put("; a size, an index or a static argument has no variable\n");
+    }
+}
+
+/// Puts the declared name that is nearest to one that is unknown, or else how to declare a variable
+/// that an equation defines.
 fn put_nearest(page: &mut Page, text: &[u8], fault: &NameFault, sought: Sought) {
+    let (node, name) = (node_of(fault).as_bytes(), fault.name.as_bytes());
+    match nearest_of(text, node, name, &sorts_of(sought)) {
+        Some(other) => {
+            page.put("help: a similar name is `");
+            put_bytes(page, other);
+            page.put("`\n");
+        }
+        None if matches!(sought, Sought::Variable) => {
+            let end = ": int;` or `: bool;`\n";
+            page.put_in(
+                "help: a local is declared before let, by `var ",
+                fault.name.as_str(),
+                end,
+            );
+        }
+        None => {}
+    }
+}
+
+/// Puts how to mend a name that is unknown, for common mistakes.
+fn put_mend(page: &mut Page, text: &[u8], fault: &NameFault, sought: Sought) {
     let name = fault.name.as_bytes();
     let mend = mend_of_word(name);
     if !mend.is_empty() {
         return page.put_in("help: ", mend, "\n");
     }
-    if let Some(other) = nearest_of(text, node_of(fault).as_bytes(), name, &sorts_of(sought)) {
-        page.put("help: a similar name is `");
-        put_bytes(page, other);
-        page.put("`\n");
+    if name.eq_ignore_ascii_case(b"true") || name.eq_ignore_ascii_case(b"false") {
+        return page.put("help: `true` and `false` are written in small letters\n");
     }
+    if matches!(sought, Sought::Constant) && is_variable(text, fault) {
+        return put_hidden(page, text, fault);
+    }
+    put_nearest(page, text, fault, sought);
 }
 
 /// Puts the rule that is broken.
@@ -70,7 +112,7 @@ fn put_rule(page: &mut Page, fault: &NameFault) {
 /// Puts how to mend the fault, or the first declaration of the name, and the node.
 fn put_further(page: &mut Page, text: &Text<'_>, fault: &NameFault) {
     match fault.rule {
-        NameRule::Unknown(sought) => put_nearest(page, text.bytes, fault, sought),
+        NameRule::Unknown(sought) => put_mend(page, text.bytes, fault, sought),
         NameRule::Doubled { first } => {
             put_note(page, text, first);
             page.put("it is declared here first\n");

@@ -10,10 +10,15 @@ enum Open {
     /// Parentheses: of a call where a name or `>>` stands before them.
     Group,
     Call,
+    /// Parentheses round the variable of a `when`, and within a static expression.
+    Clock,
+    StaticGroup,
     /// The brackets of an array, and those of an index.
     Array,
     Index,
     Static,
+    /// `<<` after `map`, `red` or `fill`.
+    Iterator,
     /// After `if`, and after `then`.
     Condition,
     Choice,
@@ -30,11 +35,15 @@ enum Last {
     /// `>>`, behind which arguments stand.
     Arguments,
     When,
+    /// `not` after `when`.
+    WhenNot,
     Caret,
     /// `#` or `nor`.
     Counted,
-    /// `<<` after `map`, `red` or `fill`.
+    /// `<<` after `map`, `red` or `fill`, then the name behind it, or the whole that is applied.
     Applied,
+    AppliedName,
+    Iterated,
     /// `(` of a call.
     Call,
     /// A token that an operand follows.
@@ -63,6 +72,14 @@ impl Reading {
         }
     }
 
+    /// Whether a static expression is open innermost.
+    fn is_static(&self) -> bool {
+        matches!(
+            self.innermost(),
+            Some(Open::Static | Open::Iterator | Open::Index | Open::StaticGroup)
+        )
+    }
+
     /// Closes the innermost bracket, and the `if` and `then` that are open in it.
     fn close(&mut self) {
         for _turn in 0..self.opened.len() {
@@ -82,7 +99,11 @@ impl Reading {
     /// Opens a parenthesis.
     fn open_group(&mut self) {
         match self.last {
-            Last::Name | Last::Arguments | Last::Counted => self.put(Open::Call, Last::Call),
+            Last::Name | Last::Arguments => self.put(Open::Call, Last::Call),
+            Last::Counted => self.put(Open::Call, Last::Operator),
+            Last::When | Last::WhenNot => self.put(Open::Clock, Last::Operator),
+            Last::Caret => self.put(Open::StaticGroup, Last::Operator),
+            _ if self.is_static() => self.put(Open::StaticGroup, Last::Operator),
             _ => self.put(Open::Group, Last::Operator),
         }
     }
@@ -97,12 +118,11 @@ impl Reading {
 
     /// Opens static brackets.
     fn open_static(&mut self) {
-        let last = if self.is_iterator {
-            Last::Applied
+        if self.is_iterator {
+            self.put(Open::Iterator, Last::Applied);
         } else {
-            Last::Operator
-        };
-        self.put(Open::Static, last);
+            self.put(Open::Static, Last::Operator);
+        }
     }
 
     /// Ends the condition or the choice that is open innermost.
@@ -126,9 +146,29 @@ impl Reading {
     /// Takes an operator: in an expression, or the one that an iterator applies.
     fn operator(&mut self) {
         self.last = if self.last == Last::Applied {
-            Last::Operand
+            Last::Iterated
         } else {
             Last::Operator
+        };
+    }
+
+    /// Closes static brackets.
+    fn close_static(&mut self) {
+        self.close();
+        self.last = match self.innermost() {
+            Some(Open::Iterator) => Last::Iterated,
+            _ => Last::Arguments,
+        };
+    }
+
+    /// Takes a name.
+    fn name(&mut self, word: &str) {
+        let is_applied = self.last == Last::Applied;
+        self.is_iterator = !is_applied && matches!(word, "map" | "red" | "fill");
+        self.last = if is_applied {
+            Last::AppliedName
+        } else {
+            Last::Name
         };
     }
 
@@ -144,7 +184,7 @@ impl Reading {
             "(" => self.open_group(),
             "[" => self.open_bracket(),
             "<<" => self.open_static(),
-            ">>" => self.closed(Last::Arguments),
+            ">>" => self.close_static(),
             ")" | "]" => self.closed(Last::Operand),
             _ => self.operator(),
         }
@@ -161,7 +201,7 @@ impl Reading {
             "when" => self.last = Last::When,
             "^" => self.last = Last::Caret,
             "#" | "nor" => self.last = Last::Counted,
-            "not" if self.last == Last::When => {}
+            "not" if self.last == Last::When => self.last = Last::WhenNot,
             "," | ";" => self.last = Last::Operator,
             _ => self.bracket(word),
         }
@@ -172,10 +212,7 @@ impl Reading {
         let word = token.word(text);
         match token.sort {
             Sort::Mark => self.mark(word),
-            Sort::Name => {
-                self.last = Last::Name;
-                self.is_iterator = matches!(word, "map" | "red" | "fill");
-            }
+            Sort::Name => self.name(word),
             _ => self.last = Last::Operand,
         }
     }
@@ -183,7 +220,8 @@ impl Reading {
     /// The tokens that are expected where an operand begins.
     fn operand(&self) -> &'static str {
         match self.innermost() {
-            Some(Open::Static | Open::Index) => "a number, a name, `-` or `(`",
+            Some(Open::Clock) => "a name",
+            _ if self.is_static() => "a number, a name, `-` or `(`",
             _ => "an expression",
         }
     }
@@ -191,10 +229,14 @@ impl Reading {
     /// The tokens that are expected where an operand ends.
     fn after_operand(&self) -> &'static str {
         match self.innermost() {
-            Some(Open::Group | Open::Call) => "`,`, `)` or an operator",
+            Some(Open::Group) => "`)` or an operator",
+            Some(Open::Call) => "`,`, `)` or an operator",
+            Some(Open::Clock) => "`)`",
+            Some(Open::StaticGroup) => "`)` or an operator of static expressions",
             Some(Open::Array) => "`,`, `]` or an operator",
             Some(Open::Index) => "`]`, `..` or an operator of static expressions",
             Some(Open::Static) => "`,`, `;`, `>>` or an operator of static expressions",
+            Some(Open::Iterator) => "`>>` or an operator of static expressions",
             Some(Open::Condition) => "`then` or an operator",
             Some(Open::Choice) => "`else` or an operator",
             None => "`;` or an operator",
@@ -207,8 +249,11 @@ impl Reading {
             Last::Name | Last::Operand => self.after_operand(),
             Last::Arguments | Last::Counted => "`(`",
             Last::When => "`not`, a name or `(`",
+            Last::WhenNot => "a name or `(`",
             Last::Caret => "a number, a name or `(`",
             Last::Applied => "a name, `+`, `-`, `*`, `and`, `or` or `xor`",
+            Last::AppliedName => "`<<`, `,` or `;`",
+            Last::Iterated => "`,` or `;`",
             Last::Call => "an expression or `)`",
             _ => self.operand(),
         }

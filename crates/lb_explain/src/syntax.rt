@@ -5,12 +5,11 @@ use crate::context::{Context, Section, context_of};
 use crate::excerpt::{put_bytes, put_excerpt, put_place};
 use crate::headings::{InConstant, constant_at, expected_in_heading};
 use crate::lexeme::{Lexeme, Sort, last_before, piece_at, token_at};
+use crate::mistakes::{Refused, does_not_group, mend_of};
 use crate::page::Page;
 use crate::statements::{expected_in_body, expected_in_value};
 use crate::texts::{Stretch, line_at, offset_of, spot};
-use crate::words::{is_same, mend_of_word};
 use lb_places::Text;
-use lb_syntax::is_sign;
 
 /// The most bytes of a token that are shown.
 const SHOWN: usize = 40;
@@ -65,100 +64,22 @@ fn window_start(text: &[u8], context: &Context) -> usize {
     context.start
 }
 
-/// Whether a token joins two operands.
-fn is_infix(text: &[u8], token: &Lexeme) -> bool {
-    token.sort == Sort::Mark && is_sign(token.of(text))
-}
-
-/// Two texts, and how to mend them where they stand together.
-type Mend = (&'static str, &'static str, &'static str);
-
-/// The mend of two texts; empty where the table does not have them.
-fn mend_among(mends: &[Mend], first: &str, second: &str) -> &'static str {
-    for (one, other, mend) in mends {
-        if is_same(*one, first) && is_same(*other, second) {
-            return *mend;
-        }
+/// Puts the tokens that are expected. An operator that does not group with the one before it is
+/// refused where another operator could stand.
+fn put_expected(page: &mut Page, refused: &Refused<'_>) {
+    page.put("expected ");
+    match refused.expected.strip_suffix("an operator") {
+        Some(front) if does_not_group(refused) => page.put_in("", front, "another operator"),
+        _ => page.put(refused.expected),
     }
-    ""
-}
-
-/// Two tokens that other languages write together.
-static PAIRS: [Mend; 4] = [
-    ("|", "|", "disjunction is written `or`"),
-    ("=", "=", "equality is written `=`"),
-    ("/", "=", "unequal is written `<>`"),
-    ("=", ">=", "`=>` is the implication"),
-];
-
-/// The mend of two tokens that other languages write together; empty for other tokens.
-fn mend_of_pair(text: &[u8], last: &Lexeme, found: &Lexeme) -> &'static str {
-    let word = found.word(text);
-    if last.sort == Sort::Number && (is_same(word, ".") || is_same(word, "..")) {
-        return "real numbers are not in the language; scale them to int";
-    }
-    mend_among(&PAIRS, last.word(text), word)
-}
-
-/// Whether an operator is refused where operators could stand: it does not group with those before.
-fn does_not_group(expected: &str, text: &[u8], found: &Lexeme) -> bool {
-    expected.ends_with("or an operator") && is_infix(text, found)
-}
-
-/// The tokens that are expected at a place, and a token that stands there instead.
-static PLACES: [Mend; 6] = [
-    ("`,` or `=`", ":", "an equation is written `x = e;`"),
-    (
-        "`,` or `=`",
-        "[",
-        "an equation defines a whole array: `x = [a, b];`",
-    ),
-    (
-        "a name, `(`, `assert` or `tel`",
-        "if",
-        "`if` chooses a value: `x = if c then a else b;`",
-    ),
-    (
-        "`^`, `when`, `;` or `)`",
-        ",",
-        "variables of one type are parted by `,`, and others by `;`",
-    ),
-    (
-        "`var` or `let`",
-        "const",
-        "constants are declared outside of nodes",
-    ),
-    (
-        "`;` or an operator",
-        ".",
-        "structures are not in the language",
-    ),
-];
-
-/// The mend of the token that was found; empty where it is no common mistake.
-fn mend_of(text: &[u8], last: &Lexeme, found: &Lexeme, expected: &str) -> &'static str {
-    let pair = mend_of_pair(text, last, found);
-    if !pair.is_empty() {
-        return pair;
-    }
-    let place = mend_among(&PLACES, expected, found.word(text));
-    if !place.is_empty() {
-        return place;
-    }
-    let word = mend_of_word(found.of(text));
-    if !word.is_empty() {
-        return word;
-    }
-    if does_not_group(expected, text, found) {
-        return "this operator does not group with the one before it; write parentheses";
-    }
-    mend_of_word(last.of(text))
+    page.put(", ");
 }
 
 /// Puts the tokens that are expected, and the token that was found.
-fn put_found(page: &mut Page, text: &[u8], expected: &str, found: &Lexeme) {
-    if !expected.is_empty() {
-        page.put_in("expected ", expected, ", ");
+fn put_found(page: &mut Page, refused: &Refused<'_>) {
+    let (text, found) = (refused.text, refused.found);
+    if !refused.expected.is_empty() {
+        put_expected(page, refused);
     }
     if found.sort == Sort::End {
         return page.put("found the end of the text\n");
@@ -212,12 +133,20 @@ pub fn explain_syntax(page: &mut Page, text: &Text<'_>, line: u32, column: u32) 
     let at = offset_of(bytes, line, column);
     let context = context_of(bytes, at);
     let found = found_at(bytes, at);
-    let last = last_before(bytes, window_start(bytes, &context), at);
+    let from = window_start(bytes, &context);
+    let last = last_before(bytes, from, at);
     let expected = expected_at(page, bytes, &context, &last, at);
-    put_found(page, bytes, expected, &found);
+    let refused = Refused {
+        text: bytes,
+        from,
+        last,
+        found,
+        expected,
+    };
+    put_found(page, &refused);
     put_line(page, text, &spot(text, found.start, found.end));
     put_open_node(page, text, &context);
-    let mend = mend_of(bytes, &last, &found, expected);
+    let mend = mend_of(&refused);
     if !mend.is_empty() {
         page.put_in("help: ", mend, "\n");
     }

@@ -46,6 +46,28 @@ pub fn line_start(bytes: &[u8], at: usize) -> usize {
     0
 }
 
+/// The start of the line that a place in a part of a file is in. The part leaves out bytes behind
+/// the header: so a carriage return may stand there, whose newline is left out.
+fn part_line_start(bytes: &[u8], at: usize) -> usize {
+    let at = at.min(bytes.len());
+    for back in 0..at {
+        let start = at.saturating_sub(back);
+        let last = byte_at(bytes, start.saturating_sub(1));
+        if last == b'\n' || last == b'\r' && byte_at(bytes, start) != b'\n' {
+            return start;
+        }
+    }
+    0
+}
+
+/// The start of the line of traces that a place is in.
+pub fn record_line(text: &Text<'_>, at: usize) -> usize {
+    if text.lines_before > 0 {
+        return part_line_start(text.bytes, at);
+    }
+    line_start(text.bytes, at)
+}
+
 /// The stretch of a text from `start` to `end`.
 pub fn spot(text: &Text<'_>, start: usize, end: usize) -> Stretch {
     let begin = line_start(text.bytes, start);

@@ -111,5 +111,5 @@ fn explain_record(page: &mut Page, text: &Text<'_>, number: u64) {
     );
     let instants = instants(page, bytes, &record);
     put_limit(page, limit_of(&record, columns, instants));
-    put_record(page, bytes, &record);
+    put_record(page, text, &record);
 }

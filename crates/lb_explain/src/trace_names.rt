@@ -1,6 +1,6 @@
 //! E17: the name of a trace that is not lawful, or comes back behind another trace.
 
-use crate::cells::{put_cell, stretch_of};
+use crate::cells::{number_of, put_cell, stretch_of};
 use crate::characters::{is_printable, put_byte};
 use crate::excerpt::{put_excerpt, put_place};
 use crate::page::Page;
@@ -61,7 +61,7 @@ fn explain_rule(page: &mut Page, text: &Text<'_>, record: &Cursor, cell: &CellPl
     put_rule(page, name);
     put_excerpt(page, text, &place);
     page.put("help: a name has 1 to 64 letters, digits, `_`, `-`, `.` and `/`\n");
-    page.put_number_in("in record ", record.records, "\n");
+    page.put_number_in("in record ", number_of(text, record), "\n");
 }
 
 /// Explains a name that comes back, where it stood before.
@@ -87,7 +87,7 @@ fn explain_return(
     let before = stretch_of(text, &first, first.at, first.at);
     put_place(page, text, &before, "note");
     page.put("it began here; the records of a trace stand together\n");
-    page.put_number_in("in record ", record.records, "\n");
+    page.put_number_in("in record ", number_of(text, record), "\n");
 }
 
 /// Explains E17 for the record with a number.

@@ -2,12 +2,13 @@
 
 use crate::counts::put_count;
 use crate::excerpt::put_bytes;
-use crate::lexeme::{Sort, last_before, token_at};
+use crate::lexeme::{Sort, last_before, piece_at, token_at};
 use crate::marking::{put_marked, token_of, word_of};
 use crate::page::Page;
 use crate::paths::put_path;
 use lb_check::{SourceType, TypeFault, TypeRule};
 use lb_places::Text;
+use lb_syntax::Kind;
 
 /// Puts a type between two texts.
 fn put_type_in(page: &mut Page, front: &str, shown: &SourceType, end: &str) {
@@ -160,6 +161,16 @@ fn put_reading(page: &mut Page, text: &Text<'_>, fault: &TypeFault) {
     }
 }
 
+/// Whether an array stands where a power is meant, as `x` of `x ^ 2 > 9`.
+fn is_power(text: &[u8], fault: &TypeFault) -> bool {
+    let wants_int = match &fault.wanted {
+        Some(wanted) => wanted.sizes.is_empty() && matches!(wanted.kind, Kind::Int),
+        None => false,
+    };
+    let operand = piece_at(text, fault.offset as usize);
+    wants_int && token_at(text, operand.end).is(text, b"^".as_slice())
+}
+
 /// What an iterator wants of its node; empty for other words.
 fn iterator_mend(iterator: &[u8]) -> &'static str {
     match iterator {
@@ -173,6 +184,14 @@ fn iterator_mend(iterator: &[u8]) -> &'static str {
 fn put_mend(page: &mut Page, text: &Text<'_>, fault: &TypeFault) {
     match fault.rule {
         TypeRule::IteratedNode => page.put(iterator_mend(word_of(text, fault.offset))),
+        TypeRule::ClockVariable => {
+            page.put(
+                "help: give the condition a variable of its own: `c = ..`, and then `when c`\n",
+            );
+        }
+        TypeRule::Operand(_) if is_power(text.bytes, fault) => {
+            page.put("help: `^` makes an array; a power is written as a product, `x * x`\n");
+        }
         _ => put_reading(page, text, fault),
     }
 }

@@ -16,7 +16,7 @@ fn is_among(word: &[u8], words: &[&str]) -> bool {
 }
 
 /// The mends of words of other languages, and of words that this language writes in another way.
-static MENDS: [(&[&str], &str); 18] = [
+static MENDS: [(&[&str], &str); 25] = [
     (
         &["real", "float"],
         "real numbers are not in the language; scale them to int",
@@ -68,6 +68,25 @@ static MENDS: [(&[&str], &str); 18] = [
         "the iterators are map, red and fill",
     ),
     (&["with"], "recursion by with is not in the language"),
+    (
+        &["activate"],
+        "activate is not in the language; call the node on a clock by `when`",
+    ),
+    (
+        &["restart"],
+        "restart is not in the language; give the node an input for the reset",
+    ),
+    (
+        &["automaton"],
+        "automata are not in the language; keep the state in an int",
+    ),
+    (
+        &["last"],
+        "last is not in the language; write `first -> pre x`",
+    ),
+    (&["implies"], "implication is written `=>`"),
+    (&["rem"], "the remainder is written `mod`"),
+    (&["fi", "endif"], "no word ends an `if`"),
 ];
 
 /// The mend of a word that is not in the language; empty for other words.
