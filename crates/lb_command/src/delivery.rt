@@ -11,6 +11,8 @@ use crate::answer::Answer;
 use crate::explanation::tell;
 use crate::refusal::Refusal;
 use lb_report::{Sent, Sink, send};
+use std::fs::Files;
+use std::os::unix::fs::FileExt;
 
 /// Writes a text to its end, and flushes the sink.
 fn put<S: Sink>(sink: &mut S, text: &[u8]) -> Result<(), Sent>
@@ -50,7 +52,8 @@ pub fn deliver<R, W, E>(
     errors: &mut E,
 ) -> u8
 where
-    R: AllocGlobal,
+    R: Files + AllocGlobal,
+    R::File: FileExt,
     W: Sink,
     E: Sink,
     requires writer { W.failures writer.old < u64.MAX }
@@ -68,7 +71,7 @@ where
         }
         Err(sent) => {
             let refusal = Refusal::unsent(sent.count, Some(answer.text().len()));
-            tell(rt.alloc(), words, None, &refusal, errors)
+            tell(rt, words, None, &refusal, errors)
         }
     }
 }

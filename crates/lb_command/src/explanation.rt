@@ -13,10 +13,13 @@ use crate::causes::{
 use crate::line::send_lines;
 use crate::refusal::{Cause, Refusal, Texts};
 use lb_explain::{Text, explain, wiring_warnings};
+use lb_part::{FileRanges, Skipped, count_skipped};
 use lb_report::{BenchError, Report, Sink, split_case};
 use lb_values::explain_report;
 use lb_words::{Task, asks_for_all, asks_to_explain, explain_words};
 use std::alloc::{AllocError, Global};
+use std::fs::{File, Files};
+use std::os::unix::fs::FileExt;
 
 /// The most traces that are explained, of those that did not pass, unless all are asked for.
 const MOST_TRACES: usize = 20;
@@ -27,17 +30,91 @@ fn text_at<'a>(path: Option<&'a str>, bytes: &'a [u8], lines_before: u64) -> Tex
         name: path.unwrap_or("-"),
         bytes,
         lines_before,
+        records_before: 0,
     }
 }
 
-/// The name of the text of traces: its path, or `-` for standard input, and which part of it this
-/// is. The lines of a part are counted from its header on.
-fn traces_name(alloc: Global, task: &Task<'_>) -> Result<String, AllocError> {
+/// What the part of a task leaves out behind the header of its file, which is read again up to the
+/// part. An error of the header, E14, is about no later line. None where the file can not be read.
+fn skipped_by<R>(rt: &R, task: &Task<'_>, error: &BenchError) -> Option<Skipped>
+where
+    R: Files + AllocGlobal,
+    R::File: FileExt,
+{
+    let part = task.part?;
+    if error.number() < 15 {
+        return Some(Skipped {
+            lines: 0,
+            records: 0,
+        });
+    }
+    match File::open(rt, task.traces?) {
+        Ok(file) => count_skipped(rt.alloc(), &FileRanges::new(&file), part).ok(),
+        Err(_) => None,
+    }
+}
+
+/// The name of the text of traces: its path, or `-` for standard input. Where lines of a part can
+/// be counted from its header on only, the name says which part this is.
+fn traces_name(
+    alloc: Global,
+    task: &Task<'_>,
+    skipped: Option<Skipped>,
+) -> Result<String, AllocError> {
     let path = task.traces.unwrap_or("-");
     match task.part {
-        Some(part) => format!(in alloc; "{path}, part {}/{}", part.number, part.count),
-        None => String::from_str(alloc, path),
+        Some(part) if skipped.is_none() => {
+            format!(in alloc; "{path}, part {}/{}", part.number, part.count)
+        }
+        _ => String::from_str(alloc, path),
     }
+}
+
+/// Adds a line with the part that a refusal of its traces is about, if the task has one.
+fn push_part(
+    alloc: Global,
+    lines: &mut Vec<u8>,
+    task: &Task<'_>,
+    error: &BenchError,
+) -> Result<(), AllocError> {
+    if let Some(part) = task.part
+        && error.number() >= 14
+    {
+        let line = format!(in alloc; "in part {}/{}\n", part.number, part.count)?;
+        lines.extend_from_slice(line.as_bytes())?;
+    }
+    Ok(())
+}
+
+/// Explains why the bench refuses a source and its traces, which may be a part of a file.
+fn explain_two<R>(
+    rt: &R,
+    task: &Task<'_>,
+    error: &BenchError,
+    source: &[u8],
+    traces: &[u8],
+) -> Result<Vec<u8>, AllocError>
+where
+    R: Files + AllocGlobal,
+    R::File: FileExt,
+{
+    let alloc = rt.alloc();
+    let source = text_at(task.source, source, 0);
+    let skipped = skipped_by(rt, task, error);
+    let name = traces_name(alloc, task, skipped)?;
+    let (lines_before, records_before) = match skipped {
+        Some(skipped) => (skipped.lines, skipped.records),
+        None => (0, 0),
+    };
+    let traces = Text {
+        name: name.as_str(),
+        bytes: traces,
+        lines_before,
+        records_before,
+    };
+    let mut lines = explain(alloc, &source, &traces, &task.options, error)?;
+    push_part(alloc, &mut lines, task, error)?;
+    Ok(lines)
 }
 
 /// The number of lines of a case text before its traces.
@@ -51,41 +128,46 @@ fn lines_before(case: &[u8], traces: &[u8]) -> u64 {
 }
 
 /// Explains why the bench refuses some texts.
-fn explain_texts(
-    alloc: Global,
+fn explain_texts<R>(
+    rt: &R,
     task: &Task<'_>,
     error: &BenchError,
     texts: &Texts,
-) -> Result<Vec<u8>, AllocError> {
-    let options = &task.options;
+) -> Result<Vec<u8>, AllocError>
+where
+    R: Files + AllocGlobal,
+    R::File: FileExt,
+{
     match texts {
         Texts::Two { source, traces } => {
-            let source = text_at(task.source, source.as_slice(), 0);
-            let name = traces_name(alloc, task)?;
-            let traces = text_at(Some(name.as_str()), traces.as_slice(), 0);
-            explain(alloc, &source, &traces, options, error)
+            explain_two(rt, task, error, source.as_slice(), traces.as_slice())
         }
         Texts::Case(case) => {
             let (source, traces) = split_case(case.as_slice());
             let before = lines_before(case.as_slice(), traces);
             let source = text_at(None, source, 0);
             let traces = text_at(None, traces, before);
-            explain(alloc, &source, &traces, options, error)
+            explain(rt.alloc(), &source, &traces, &task.options, error)
         }
     }
 }
 
 /// The lines that explain a refusal of these words, which ask for a task where they can be read;
 /// none where nothing more is known.
-fn explanation(
-    alloc: Global,
+fn explanation<R>(
+    rt: &R,
     words: &[String],
     task: Option<&Task<'_>>,
     refusal: &Refusal,
-) -> Result<Vec<u8>, AllocError> {
+) -> Result<Vec<u8>, AllocError>
+where
+    R: Files + AllocGlobal,
+    R::File: FileExt,
+{
+    let alloc = rt.alloc();
     match &refusal.cause {
         Some(Cause::Judged { error, texts }) => match task {
-            Some(task) => explain_texts(alloc, task, error, texts),
+            Some(task) => explain_texts(rt, task, error, texts),
             None => Ok(Vec::new(alloc)),
         },
         Some(Cause::NoReport { path, line }) => explain_no_report(alloc, path.as_str(), *line),
@@ -102,15 +184,18 @@ fn explanation(
 }
 
 /// The lines that explain a refusal, where the words ask for them; none where memory ran out.
-fn lines_of(alloc: Global, words: &[String], task: Option<&Task<'_>>, refusal: &Refusal) -> Vec<u8>
+fn lines_of<R>(rt: &R, words: &[String], task: Option<&Task<'_>>, refusal: &Refusal) -> Vec<u8>
+where
+    R: Files + AllocGlobal,
+    R::File: FileExt,
     ensures { asks_to_explain (map string_bytes words.now) ≡ false → result.items ≡ [] }
 {
     if !asks_to_explain(words) {
-        return Vec::new(alloc);
+        return Vec::new(rt.alloc());
     }
-    match explanation(alloc, words, task, refusal) {
+    match explanation(rt, words, task, refusal) {
         Ok(lines) => lines,
-        Err(_) => Vec::new(alloc),
+        Err(_) => Vec::new(rt.alloc()),
     }
 }
 
@@ -178,13 +263,17 @@ pub fn remarks_of(
 /// Writes the line of a refusal to standard error, and behind it the lines that explain it where
 /// the words ask for them, and returns its exit status. Where standard error fails too, the status
 /// alone reports the refusal.
-pub fn tell<E: Sink>(
-    alloc: Global,
+pub fn tell<R, E>(
+    rt: &R,
     words: &[String],
     task: Option<&Task<'_>>,
     refusal: &Refusal,
     errors: &mut E,
 ) -> u8
+where
+    R: Files + AllocGlobal,
+    R::File: FileExt,
+    E: Sink,
     requires { E.failures errors.old < u64.MAX }
     ensures status { result ≡ refusal_status refusal.now.number }
     ensures told { IsTold (map string_bytes words.now)
@@ -192,7 +281,7 @@ pub fn tell<E: Sink>(
         (E.failures errors.old) (E.failures errors.new))
         (spec.line refusal.now.number refusal.now.position) }
 {
-    let further = lines_of(alloc, words, task, refusal);
+    let further = lines_of(rt, words, task, refusal);
     let _ = send_lines(errors, refusal, further.as_slice());
     refusal.status()
 }

@@ -17,6 +17,7 @@ use lb_static::Signature;
 use lb_words::{Aim, Task};
 use std::alloc::{AllocError, Global};
 use std::fs::Files;
+use std::os::unix::fs::FileExt;
 
 /// The header of traces of these scalar inputs: `trace`, then the name of each, in order.
 fn header_of(alloc: Global, inputs: &Signature) -> Result<Vec<u8>, AllocError>
@@ -100,6 +101,7 @@ pub fn run_judging<R, F, W, E>(
 ) -> u8
 where
     R: Files + AllocGlobal,
+    R::File: FileExt,
     F: Feed,
     W: Sink,
     E: Sink,
@@ -120,6 +122,6 @@ where
             let answer = Answer::OfSource(value);
             deliver(rt, words, &answer, warnings.as_slice(), writer, errors)
         }
-        Err(refusal) => tell(rt.alloc(), words, Some(task), &refusal, errors),
+        Err(refusal) => tell(rt, words, Some(task), &refusal, errors),
     }
 }

@@ -191,14 +191,8 @@ where
             0
         }
         Err(fault) => match fault {
-            LiveFault::Refused(refusal) => tell(rt.alloc(), words, Some(task), &refusal, errors),
-            LiveFault::Stopped(cause) => tell(
-                rt.alloc(),
-                words,
-                Some(task),
-                &Refusal::from(cause),
-                errors,
-            ),
+            LiveFault::Refused(refusal) => tell(rt, words, Some(task), &refusal, errors),
+            LiveFault::Stopped(cause) => tell(rt, words, Some(task), &Refusal::from(cause), errors),
         },
     }
 }

@@ -19,6 +19,7 @@ use lb_report::{Report, Sink};
 use lb_words::Task;
 use std::alloc::{AllocError, Global};
 use std::fs::Files;
+use std::os::unix::fs::FileExt;
 
 /// Adds a text.
 fn keep(texts: &mut Vec<Vec<u8>>, text: Vec<u8>) -> Result<(), AllocError>
@@ -114,6 +115,7 @@ fn run_measured<R, W, E>(
 ) -> u8
 where
     R: Files + AllocGlobal,
+    R::File: FileExt,
     W: Sink,
     E: Sink,
     requires baseline { IsBaseline task.now.terms baseline }
@@ -131,7 +133,7 @@ where
             let answer = Answer::OfTraces(value);
             deliver(rt, words, &answer, warnings.as_slice(), writer, errors)
         }
-        Err(refusal) => tell(rt.alloc(), words, Some(task), &refusal, errors),
+        Err(refusal) => tell(rt, words, Some(task), &refusal, errors),
     }
 }
 
@@ -147,6 +149,7 @@ fn run_compared<R, W, E>(
 ) -> u8
 where
     R: Files + AllocGlobal,
+    R::File: FileExt,
     W: Sink,
     E: Sink,
     requires baseline { IsSome task.now.terms.baseline }
@@ -160,7 +163,7 @@ where
 {
     match read_baseline(rt.alloc(), &task.terms, earlier) {
         Ok(before) => run_measured(rt, words, task, Some(&before), writer, errors),
-        Err(refusal) => tell(rt.alloc(), words, Some(task), &refusal, errors),
+        Err(refusal) => tell(rt, words, Some(task), &refusal, errors),
     }
 }
 
@@ -175,6 +178,7 @@ pub fn run_merge<R, W, E>(
 ) -> u8
 where
     R: Files + AllocGlobal,
+    R::File: FileExt,
     W: Sink,
     E: Sink,
     requires writer { W.failures writer.old < u64.MAX }
@@ -190,6 +194,6 @@ where
             None => run_measured(rt, words, task, None, writer, errors),
             Some(text) => run_compared(rt, words, task, text.as_slice(), writer, errors),
         },
-        Err(refusal) => tell(rt.alloc(), words, Some(task), &refusal, errors),
+        Err(refusal) => tell(rt, words, Some(task), &refusal, errors),
     }
 }

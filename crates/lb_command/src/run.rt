@@ -267,7 +267,7 @@ where
             let answer = Answer::OfTraces(value);
             deliver(rt, words, &answer, warnings.as_slice(), writer, errors)
         }
-        Err(refusal) => tell(rt.alloc(), words, Some(task), &refusal, errors),
+        Err(refusal) => tell(rt, words, Some(task), &refusal, errors),
     }
 }
 
@@ -302,7 +302,7 @@ where
 {
     match read_baseline(rt.alloc(), &task.terms, earlier) {
         Ok(before) => run_measured(rt, words, task, Some(&before), reader, writer, errors),
-        Err(refusal) => tell(rt.alloc(), words, Some(task), &refusal, errors),
+        Err(refusal) => tell(rt, words, Some(task), &refusal, errors),
     }
 }
 
@@ -338,7 +338,7 @@ where
             None => run_measured(rt, words, task, None, reader, writer, errors),
             Some(text) => { run_compared(rt, words, task, text.as_slice(), reader, writer, errors) }
         },
-        Err(refusal) => tell(rt.alloc(), words, Some(task), &refusal, errors),
+        Err(refusal) => tell(rt, words, Some(task), &refusal, errors),
     }
 }
 
@@ -412,6 +412,6 @@ where
             Request::Version => deliver(rt, words, &Answer::Version, &[], writer, errors),
             Request::Run(task) => run_task(rt, words, &task, reader, writer, errors),
         },
-        Err(cause) => tell(rt.alloc(), words, None, &Refusal::from(cause), errors),
+        Err(cause) => tell(rt, words, None, &Refusal::from(cause), errors),
     }
 }

@@ -205,9 +205,9 @@ where
             0
         }
         Err(fault) => match fault {
-            ShowingFault::Refused(refusal) => tell(rt.alloc(), words, Some(task), &refusal, errors),
+            ShowingFault::Refused(refusal) => tell(rt, words, Some(task), &refusal, errors),
             ShowingFault::Stopped(cause) => tell(
-                rt.alloc(),
+                rt,
                 words,
                 Some(task),
                 &Refusal::from(cause),

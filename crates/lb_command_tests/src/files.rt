@@ -267,7 +267,7 @@ fn part_with_a_quote(rt: HostRuntime) -> Result<(), Fail> {
     expect_answer(&rt, folder.as_str(), &QUOTED)
 }
 
-/// A cell in the second of two parts that is no number.
+/// A cell in the second of two parts that is no number. Lines and records are those of the file.
 static REFUSED_PART: Case = Case {
     files: &[
         ("@cells.lus", SOURCE),
@@ -279,11 +279,12 @@ static REFUSED_PART: Case = Case {
     )],
     wanted: "\
 |refused: E16 cell
-@cells.csv, part 2/2:4:3: error: column `x` is int, and `x` is no value of it
-    4 | d,x
+@cells.csv:5:3: error: column `x` is int, and `x` is no value of it
+    5 | d,x
       |   ^
 help: write at most 20 digits, with or without a `-` before them
-in trace `d`, instant 0, record 3
+in trace `d`, instant 0, record 4
+in part 2/2
 |2
 ",
 };
@@ -292,6 +293,82 @@ in trace `d`, instant 0, record 3
 fn part_with_a_bad_cell(rt: HostRuntime) -> Result<(), Fail> {
     let folder = env::temp_dir(&rt)?;
     expect_answer(&rt, folder.as_str(), &REFUSED_PART)
+}
+
+/// The same where lines end with a carriage return and a newline, and one is empty. The second part
+/// begins with the bad cell.
+static REFUSED_LINES: Case = Case {
+    files: &[
+        ("@lines.lus", SOURCE),
+        (
+            "@lines.csv",
+            "trace,x\r\na,3\r\n\r\nb,x\r\nc,1\r\nd,2\r\n",
+        ),
+    ],
+    runs: &[(
+        "lbench --explain --node plant --observe small --part 2/2 @lines.lus @lines.csv",
+        "",
+    )],
+    wanted: "\
+|refused: E16 cell
+@lines.csv:4:3: error: column `x` is int, and `x` is no value of it
+    4 | b,x
+      |   ^
+help: write at most 20 digits, with or without a `-` before them
+in trace `b`, instant 0, record 2
+in part 2/2
+|2
+",
+};
+
+#[test]
+fn part_with_other_lines(rt: HostRuntime) -> Result<(), Fail> {
+    let folder = env::temp_dir(&rt)?;
+    expect_answer(&rt, folder.as_str(), &REFUSED_LINES)
+}
+
+/// A trace that comes back, and then a header that lacks an input, both in the second of two parts.
+static REFUSED_RECORDS: Case = Case {
+    files: &[
+        ("@back.lus", SOURCE),
+        ("@back.csv", "trace,x\na,3\nb,5\nc,1\nd,2\nc,4\n"),
+        ("@head.csv", "trace,y\na,3\nb,5\n"),
+    ],
+    runs: &[
+        (
+            "lbench --explain --node plant --observe small --part 2/2 @back.lus @back.csv",
+            "",
+        ),
+        (
+            "lbench --explain --node plant --observe small --part 2/2 @back.lus @head.csv",
+            "",
+        ),
+    ],
+    wanted: "\
+|refused: E17 trace
+@back.csv:6:1: error: trace `c` comes back after a record of another trace
+    6 | c,4
+      | ^
+@back.csv:4:1: note: it began here; the records of a trace stand together
+in record 5
+in part 2/2
+|2
+|refused: E14 header
+@head.csv:1:7: error: no input of the node under test is `y`
+    1 | trace,y
+      |       ^
+missing: x
+unknown: `y`
+wanted: trace,x, the inputs in any order
+in part 2/2
+|2
+",
+};
+
+#[test]
+fn part_with_bad_records(rt: HostRuntime) -> Result<(), Fail> {
+    let folder = env::temp_dir(&rt)?;
+    expect_answer(&rt, folder.as_str(), &REFUSED_RECORDS)
 }
 
 // ## Parts that are merged

@@ -266,6 +266,7 @@ let ok = true; tel => refused: E2 syntax at 2:7
     2 | var y int;
       |       ^^^
 -:1:1: note: in node main, which begins here
+help: a type stands behind the name: `x: int`
 status 2
 ----
 lbench --explain
@@ -285,6 +286,7 @@ let ok = true; tel => refused: E2 syntax at 1:22
     1 | node main(x: int when) returns (ok: bool);
       |                      ^
 -:1:1: note: in node main, which begins here
+help: `when` takes a Boolean variable: `x when c`, `x when not c`
 status 2
 ----
 lbench --explain
@@ -380,7 +382,7 @@ status 2
 lbench --explain
 node main(x: int) returns (ok: bool);
 let ok = (x < 1; tel => refused: E2 syntax at 2:16
--:2:16: error: expected `,`, `)` or an operator, found `;`
+-:2:16: error: expected `)` or an operator, found `;`
     2 | let ok = (x < 1; tel
       |                ^
 -:1:1: note: in node main, which begins here
@@ -438,6 +440,7 @@ let ok = x when ; tel => refused: E2 syntax at 2:17
     2 | let ok = x when ; tel
       |                 ^
 -:1:1: note: in node main, which begins here
+help: `when` takes a Boolean variable: `x when c`, `x when not c`
 status 2
 ----
 lbench --explain

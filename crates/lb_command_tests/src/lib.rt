@@ -21,6 +21,8 @@ mod formats;
 #[cfg(test)]
 mod helps;
 #[cfg(test)]
+mod mistakes;
+#[cfg(test)]
 mod outputs;
 #[cfg(test)]
 mod program_helps;
@@ -36,3 +38,5 @@ mod shown;
 mod tables;
 #[cfg(test)]
 mod texts;
+#[cfg(test)]
+mod trace_mistakes;

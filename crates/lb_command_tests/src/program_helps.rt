@@ -27,6 +27,7 @@ let ok = true; y = x; tel => refused: E4 name
 -:2:16: error: no variable is named `y`
     2 | let ok = true; y = x; tel
       |                ^
+help: a local is declared before let, by `var y: int;` or `: bool;`
 in node main
 status 2
 ----
@@ -117,6 +118,7 @@ let ok = current (true when x); tel => refused: E9 type
 -:2:29: error: the variable of a clock is bool, this is int
     2 | let ok = current (true when x); tel
       |                             ^
+help: give the condition a variable of its own: `c = ..`, and then `when c`
 in node main
 status 2
 ----
@@ -198,6 +200,7 @@ let ok = current x < 1; tel => refused: E10 clock
     2 | let ok = current x < 1; tel
       |                  ^
 -:1:11: note: `x` is declared here, on the base clock
+help: what is on the base clock has a value at each instant; leave out `current`
 in node main
 status 2
 ----

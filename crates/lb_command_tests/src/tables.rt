@@ -6,8 +6,8 @@
 
 use crate::command_lines::{Run, expect, is_same};
 use crate::{
-    commands, controllers, formats, helps, program_helps, programs, random_values, reasons, shown,
-    texts,
+    commands, controllers, formats, helps, mistakes, program_helps, programs, random_values,
+    reasons, shown, texts, trace_mistakes,
 };
 use std::alloc::AllocError;
 use std::fs::Files;
@@ -38,6 +38,10 @@ const PROGRAMS: Table = (Asks::Errors, " => ", programs::PROGRAMS);
 const HELPS: Table = (Asks::Errors, " => ", helps::HELPS);
 
 const PROGRAM_HELPS: Table = (Asks::Errors, " => ", program_helps::PROGRAM_HELPS);
+
+const MISTAKES: Table = (Asks::Errors, " => ", mistakes::MISTAKES);
+
+const TRACE_MISTAKES: Table = (Asks::Errors, " => ", trace_mistakes::TRACE_MISTAKES);
 
 const RUNS: Table = (Asks::Answers, " => ", commands::RUNS);
 
@@ -207,6 +211,16 @@ fn explained_mistakes(rt: HostRuntime) -> Result<(), Fail> {
 #[test]
 fn explained_program_mistakes(rt: HostRuntime) -> Result<(), Fail> {
     expect(&first_wrong(&rt, PROGRAM_HELPS), "")
+}
+
+#[test]
+fn mistakes_in_sources(rt: HostRuntime) -> Result<(), Fail> {
+    expect(&first_wrong(&rt, MISTAKES), "")
+}
+
+#[test]
+fn mistakes_in_traces(rt: HostRuntime) -> Result<(), Fail> {
+    expect(&first_wrong(&rt, TRACE_MISTAKES), "")
 }
 
 #[test]

@@ -41,7 +41,7 @@ status 2
 lbench --explain
 node main(x: int) returns (ok: bool);
 let ok = 1 < x < 3; tel => refused: E2 syntax at 2:16
--:2:16: error: expected `;` or an operator, found `<`
+-:2:16: error: expected `;` or another operator, found `<`
     2 | let ok = 1 < x < 3; tel
       |                ^
 -:1:1: note: in node main, which begins here
@@ -66,6 +66,7 @@ tel => refused: E2 syntax at 3:1
     3 | tel
       | ^^^
 -:1:1: note: in node main, which begins here
+help: a `;` may be missing at the end of the line above
 status 2
 ----
 lbench --explain
@@ -76,6 +77,7 @@ let
     3 |   ok = x < 3;
       |              ^
 -:1:1: note: in node main, which begins here
+help: the equations of a node end with tel
 status 2
 ----
 lbench --explain

@@ -72,6 +72,12 @@ fn is_value(name: &str, value: &str) -> bool {
     }
 }
 
+/// Whether a word that stands where a value belongs is meant as one: it has one `-` in front, as
+/// `-1`, and is no option.
+fn is_dashed(word: &str) -> bool {
+    is_option(word) && !word.starts_with("--") && !is_known(parts_of(word).0)
+}
+
 /// A word that is no part of a lawful command line.
 #[derive(Clone, Copy)]
 enum Wrong<'w> {
@@ -81,6 +87,16 @@ enum Wrong<'w> {
     Word(&'w str, &'static str, &'static str),
     /// A value, the option that it is given for, and the values that this one takes.
     Value(&'w str, &'w str, &'static str),
+    /// The same for a value that begins with `-`, and would be lawful behind a `=`.
+    Dashed(&'w str, &'w str, &'static str),
+}
+
+/// What is wrong with a value that begins with `-`, and does not stand behind a `=`.
+fn wrong_dashed<'w>(value: &'w str, name: &'w str, values: &'static str) -> Wrong<'w> {
+    if is_value(name, value) {
+        return Wrong::Dashed(value, name, values);
+    }
+    Wrong::Value(value, name, values)
 }
 
 /// Whether an option takes the word after it, which is `next`. Its value is `joined`, where one is
@@ -101,6 +117,7 @@ fn takes_next<'w>(
         Some(value) => value,
         None => match next {
             Some(value) if !is_option(value) => value,
+            Some(value) if is_dashed(value) => return Err(wrong_dashed(value, name, values)),
             _ => return Err(Wrong::Word(name, "lacks its value, ", values)),
         },
     };
@@ -174,6 +191,9 @@ fn told_of(alloc: Global, wrong: &Wrong<'_>) -> Result<String, AllocError> {
         Wrong::Word(word, fault, values) => format!(in alloc; "`{word}` {fault}{values}\n"),
         Wrong::Value(value, name, values) => format!(in alloc;
             "`{value}` is no value of `{name}`, which takes {values}\n"
+        ),
+        Wrong::Dashed(value, name, values) => format!(in alloc;
+            "`{name}` lacks its value, {values}\nhelp: a leading `-` needs `=`: `{name}={value}`\n"
         ),
     }
 }
