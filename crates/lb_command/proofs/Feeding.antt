@@ -7,8 +7,8 @@ use Rattle.lb_output.specs.declared.text.Report.{Report}
 use Rattle.lb_report.specs.Bench.{IsBenchReport}
 use Rattle.lb_report.specs.FeedAnswers.{IsFeedAnswer}
 use Rattle.lb_report.specs.RangeAnswers.{IsRangeAnswer}
-use Rattle.lb_report.specs.Windows.{Left}
-use Rattle.lb_report.specs.declared.feed.LoadError.TheVariants as load
+use Rattle.lb_feed.specs.Windows.{Left}
+use Rattle.lb_feed.specs.declared.feed.LoadError.TheVariants as load
 use Rattle.lb_report.specs.declared.feeding.FeedFault.{FeedFault}
 use Rattle.lb_report.specs.declared.feeding.FeedFault.TheVariants as fault
 use Rattle.lb_refusal.specs.declared.options.Options.{Options}

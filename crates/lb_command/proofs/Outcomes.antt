@@ -3,8 +3,8 @@ use Rattle.std.proofs.Common.{◌≡◌, ◌≢◌, List, Option, Result, Ok, Er
 use Rattle.std.specs.Prelude.{IfErr}
 use Rattle.std.specs.Result.{IsErrAnd}
 use Rattle.clap.specs.Words.{Text}
-use Rattle.lb_report.specs.declared.feed.LoadError.{LoadError}
-use Rattle.lb_report.specs.declared.feed.LoadError.TheVariants as load
+use Rattle.lb_feed.specs.declared.feed.LoadError.{LoadError}
+use Rattle.lb_feed.specs.declared.feed.LoadError.TheVariants as load
 use Rattle.lb_refusal.specs.declared.options.Options.{Options}
 use Rattle.lb_output.specs.declared.text.Report.{Report}
 use Rattle.lb_words.specs.Words.{IsRefused}

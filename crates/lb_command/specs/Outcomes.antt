@@ -5,12 +5,12 @@ use Rattle.std.specs.Prelude.{Some, None, Result, Ok, Err, string_bytes, codes, 
 use Rattle.std.specs.Prelude.{◌≤◌, Bool, length, take}
 use Rattle.std.specs.Borrow.{Bor}
 use Rattle.lb_report.specs.Bench.{IsBenchReport}
-use Rattle.lb_report.specs.Cases.{parts_of}
+use Rattle.lb_feed.specs.Cases.{parts_of}
 use Rattle.lb_report.specs.Correct.{IsBenchAnswer}
 use Rattle.lb_refusal.specs.Refusals.{number_of, position_of}
 use Rattle.lb_refusal.specs.declared.error.BenchError.{BenchError}
-use Rattle.lb_report.specs.declared.feed.LoadError.{LoadError}
-use Rattle.lb_report.specs.declared.feed.LoadError.TheVariants as load
+use Rattle.lb_feed.specs.declared.feed.LoadError.{LoadError}
+use Rattle.lb_feed.specs.declared.feed.LoadError.TheVariants as load
 use Rattle.lb_report.specs.declared.feeding.FeedFault.{FeedFault}
 use Rattle.lb_report.specs.declared.feeding.FeedFault.TheVariants as fault
 use Rattle.lb_refusal.specs.declared.options.Options.{Options}

@@ -2,7 +2,7 @@
 -- Source: this project's rule.
 use Rattle.std.specs.Prelude.{◌≡◌, ℕ, ◌<◌, ◌⊎◌, List, Option}
 use Rattle.lb_output.specs.Taken.{Taken, Takes, TakesNothing}
-use Rattle.lb_report.specs.Feeds.{IsTooLong}
+use Rattle.lb_feed.specs.Feeds.{IsTooLong}
 
 -- a sink before and after a run: what it has taken, and how often it has failed
 pub record Change : Type 0 where

@@ -2,7 +2,6 @@
 use Rattle.std.proofs.Common.{◌≡◌, ℕ, ◌+◌, ◌<◌, ◌≤◌, List, [], ◌∷◌, ◌++◌}
 use Rattle.std.proofs.Common.{take, drop, get_or, refl, sym, ap, subst, ◌∙◌, append_assoc}
 use Rattle.std.proofs.Common.{add-one, append-nil, arith, length, length-append, suc, zero}
-use Rattle.std.specs.Result.{IsErrAnd}
 use Rattle.std.proofs.lemmas.List.{length-take-le, take-append-drop, take_at}
 use Rattle.lb_check.specs.declared.verdict.Verdict.{Verdict}
 use Rattle.std.specs.Prelude.{IfErr, OnOk, Result, Ok, Err}
@@ -166,12 +165,6 @@ one_more a b names verdicts k name v d out text count to named judged is_name is
     (subst (λ rest. Is (lines names (take k verdicts) ++ line name v) rest to) (sym grown)
     (subst (λ n. Is (lines names (take k verdicts) ++ line name v) (out ++ line name v) n)
     (sym same) all))
-
--- an error that a `?` passes on
-pub passes_on : {T E : Type 0} (r : Result T E) (first : E) (P : E → Type 0)
-    → IsErrAnd r (λ e. e ≡ first) → P first → IfErr r P
-passes_on (Ok x) first P same p = tt
-passes_on (Err e) first P same p = subst P (sym same) p
 
 -- ## The end of a report
 

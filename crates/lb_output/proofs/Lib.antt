@@ -1,4 +1,3 @@
 pub mod ReportLines
-pub mod Counts
 pub mod SinkBytes
 pub mod GoingOut

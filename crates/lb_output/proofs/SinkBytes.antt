@@ -5,9 +5,9 @@ use Rattle.std.proofs.Common.{append-nil, arith, length-append, length-drop}
 use Rattle.std.proofs.Math.Seq.{take-add}
 use Rattle.std.proofs.lemmas.List.{take_rest}
 use Rattle.std.specs.Io.KnownBytes.{Appends, Keeps}
-use Rattle.lb_output.specs.Counts.{count_more}
+use Rattle.lb_feed.specs.Counts.{count_more}
 use Rattle.lb_output.specs.Taken.{Taken, Takes, TakesNothing}
-use Rattle.lb_output.proofs.Counts.{count_more-none, count_more-twice}
+use Rattle.lb_feed.proofs.Counts.{count_more-none, count_more-twice}
 
 -- ## Bytes
 

@@ -1,4 +1,3 @@
 pub mod Reports
-pub mod Counts
 pub mod Taken
 pub mod Follows

@@ -3,7 +3,7 @@
 use Rattle.std.specs.Prelude.{◌≡◌, ℕ, List, Option, length}
 use Rattle.std.specs.Borrow.{GName}
 use Rattle.std.specs.Io.KnownBytes.{Appends, Keeps}
-use Rattle.lb_output.specs.Counts.{count_more}
+use Rattle.lb_feed.specs.Counts.{count_more}
 
 -- what a sink has taken: the count of its bytes; the bytes themselves, where they are known; and
 -- the name of the writer that it lends them to

@@ -23,6 +23,13 @@ use Rattle.lb_trace.proofs.Outcomes.{complete_text, outcome-long, refused_text, 
 use Rattle.lb_pool.specs.Correct as run
 use Rattle.lb_output.specs.Reports.{IsReport}
 use Rattle.lb_output.specs.declared.text.Report.{Report}
+use Rattle.lb_feed.specs.Windows.{HasRead, IsLoadFault, Left, RunsOver, text_in}
+use Rattle.lb_feed.specs.declared.feed.LoadError.{LoadError}
+use Rattle.lb_feed.specs.declared.feed.LoadError.TheVariants as load
+use Rattle.lb_feed.specs.declared.feed.TheConstants.{INPUT_LIMIT}
+use Rattle.lb_feed.specs.declared.window.Window.{Window}
+use Rattle.lb_feed.proofs.FeedBytes.{more_than}
+use Rattle.lb_feed.proofs.WindowReads.{fault_on, read_on}
 use Rattle.lb_report.specs.Bench.{IsBenchReport, IsRefused, OnlyProgram, program_of}
 use Rattle.lb_report.specs.FeedAnswers.{IsAnswerOnFeed, IsFeedAnswer, IsFeedFault}
 use Rattle.lb_report.specs.FeedJudging.{HasRefusedSource, HasRefusedTraces, IsJudgingFault}
@@ -30,24 +37,17 @@ use Rattle.lb_report.specs.FeedJudging.{IsLastFault, IsProgramJudged, fault_by, 
 use Rattle.lb_report.specs.FeedJudging.{too_long}
 use Rattle.lb_report.specs.AcceptedPrograms.{IsAcceptedProgram}
 use Rattle.lb_report.specs.JudgedParts.{HasRefusedText, IsTextJudged, IsTextRefused}
-use Rattle.lb_report.specs.Windows.{HasRead, IsLoadFault, Left, RunsOver, text_in}
 use Rattle.lb_report.specs.declared.answer.AcceptedProgram.{AcceptedProgram}
 use Rattle.lb_refusal.specs.declared.error.BenchError.{BenchError}
 use Rattle.lb_refusal.specs.declared.error.BenchError.TheVariants as part
-use Rattle.lb_report.specs.declared.feed.LoadError.{LoadError}
-use Rattle.lb_report.specs.declared.feed.LoadError.TheVariants as load
-use Rattle.lb_report.specs.declared.feed.TheConstants.{INPUT_LIMIT}
 use Rattle.lb_report.specs.declared.feeding.FeedFault.{FeedFault}
 use Rattle.lb_report.specs.declared.feeding.FeedFault.TheVariants as fault
 use Rattle.lb_refusal.specs.declared.options.Options.{Options}
 use Rattle.lb_report.specs.declared.rounds.Halt.{Halt}
 use Rattle.lb_report.specs.declared.rounds.Halt.TheVariants as halt
 use Rattle.lb_report.specs.declared.rounds.Judged.{Judged}
-use Rattle.lb_report.specs.declared.window.Window.{Window}
 use Rattle.lb_report.proofs.Answering.{answered}
-use Rattle.lb_report.proofs.FeedBytes.{more_than}
 use Rattle.lb_report.proofs.VerdictLists.{are_verdicts}
-use Rattle.lb_report.proofs.WindowReads.{fault_on, read_on}
 
 -- ## A window that is new
 

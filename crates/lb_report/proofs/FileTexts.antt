@@ -3,24 +3,14 @@ use Rattle.std.proofs.Common.{ℕ, zero, suc, ◌≡◌, ◌∙◌, ◌+◌, ◌
 use Rattle.std.proofs.Common.{Global, None, Option, Some, Vec, ap, arith, get_or, length, subst}
 use Rattle.std.proofs.Common.{sym}
 use Rattle.std.proofs.Math.Seq.{take_all}
-use Rattle.std.proofs.lemmas.List.{map-id}
-use Rattle.std.proofs.lemmas.List.FromFn.{map-range_with_len_more}
 use Rattle.std.specs.List.{AllZip, range_with_len}
 use Rattle.lb_trace.specs.Chunks.{text_of}
-use Rattle.lb_report.specs.FileChunks.{AreChunks, IsChunkAt}
-use Rattle.lb_report.specs.PlacedFiles.{between}
-use Rattle.lb_report.specs.Ranges.{IsFileText}
-use Rattle.lb_report.specs.SectionEnds.{AreEnds, start_of}
-use Rattle.lb_report.proofs.PlacedFiles.{between_more, between_none}
-use Rattle.lb_report.proofs.RangeReads.{end_within}
-
--- a range with one number more ends with that number
-pub numbers_more : (from count : ℕ)
-    → range_with_len from (count + 1) ≡ range_with_len from count ++ (from + count) ∷ []
-numbers_more from count =
-    sym (map-id (range_with_len from (count + 1)))
-    ∙ map-range_with_len_more (λ k. k) from count (from + count) (omega arith)
-    ∙ ap (λ ks. ks ++ (from + count) ∷ []) (map-id (range_with_len from count))
+use Rattle.lb_feed.specs.FileChunks.{AreChunks, IsChunkAt}
+use Rattle.lb_feed.specs.PlacedFiles.{between}
+use Rattle.lb_feed.specs.Ranges.{IsFileText}
+use Rattle.lb_feed.specs.SectionEnds.{AreEnds, start_of}
+use Rattle.lb_feed.proofs.PlacedFiles.{between_more, between_none}
+use Rattle.lb_feed.proofs.RangeEnds.{end_within}
 
 module _ (ends : List ℕ) (size : ℕ) (are : AreEnds 0 size ends) (all : List ℕ) where
   next_start : (k : ℕ) → start_of 0 ends (k + 1) ≡ get_or ends k 0

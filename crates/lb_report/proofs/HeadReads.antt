@@ -24,10 +24,10 @@ use Rattle.lb_trace.proofs.Lines.{no-quote, plain-line, plain-skip}
 use Rattle.lb_trace.proofs.Outcomes.{outcome-records, reading-none, reading-other}
 use Rattle.lb_trace.proofs.PlainPrefixes.{plain_front}
 use Rattle.lb_trace.proofs.PlainRecords.{plain_text}
+use Rattle.lb_feed.specs.Windows.{HasTaken, Left, text_in}
+use Rattle.lb_feed.specs.declared.window.Window.{Window}
+use Rattle.lb_feed.proofs.WindowReads.{read_kept}
 use Rattle.lb_report.specs.JudgedParts.{HasRefusedText, IsHeadRead}
-use Rattle.lb_report.specs.Windows.{HasTaken, Left, text_in}
-use Rattle.lb_report.specs.declared.window.Window.{Window}
-use Rattle.lb_report.proofs.WindowReads.{read_kept}
 
 -- ## A byte order mark before a line
 

@@ -1,6 +1,3 @@
-pub mod FeedBytes
-pub mod WindowReads
-pub mod WindowTexts
 pub mod VerdictLists
 pub mod Planning
 pub mod Refusing
@@ -12,7 +9,6 @@ pub mod UnderWay
 pub mod FeedAnswering
 pub mod TextAnswering
 pub mod JudgedParts
-pub mod Sectioning
 pub mod PartReads
 pub mod QuotedReads
 pub mod QuotedTexts
@@ -22,8 +18,6 @@ pub mod PieceReads
 pub mod HeadReads
 pub mod SectionReads
 pub mod SectionJoins
-pub mod PlacedFiles
-mod PlacedTexts
 pub mod RangeReads
 pub mod RangeFiles
 pub mod RangeAnswering

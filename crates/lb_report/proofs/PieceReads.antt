@@ -24,6 +24,9 @@ use Rattle.lb_trace.specs.Tables.{columns_in}
 use Rattle.lb_trace.proofs.PlainRecordings.{begun-more}
 use Rattle.lb_trace.proofs.Readings.{with_records-append}
 use Rattle.lb_pool.specs.Correct.{AreVerdicts}
+use Rattle.lb_feed.specs.Windows.{HasRead, HasTaken, IsWindow, Left, text_in}
+use Rattle.lb_feed.specs.declared.window.Window.{Window}
+use Rattle.lb_feed.proofs.WindowReads.{fault_on, read_none, read_on}
 use Rattle.lb_report.specs.JudgedParts.{HasRoll, IsHalt, IsJudgedPart, IsMoreRead, IsNamed}
 use Rattle.lb_report.specs.JudgedParts.{IsPartRead}
 use Rattle.lb_report.specs.JudgedParts.{IsOutOfMemory, IsPiecesJudged, IsReadOn, IsReading, IsState}
@@ -32,7 +35,6 @@ use Rattle.lb_report.specs.Pieces.{AreAdded, BeginsWith, IsAllRead, IsCut, IsCut
 use Rattle.lb_report.specs.Pieces.{IsFrontRead, IsReadToCut, IsReadToLine, IsReadToQuote}
 use Rattle.lb_report.specs.Pieces.{IsRoundRead, IsSoundCut}
 use Rattle.lb_report.specs.Turns.{IsTurn}
-use Rattle.lb_report.specs.Windows.{HasRead, HasTaken, IsWindow, Left, text_in}
 use Rattle.lb_report.specs.declared.pieces.Cut.{Cut}
 use Rattle.lb_report.specs.declared.pieces.Cut.TheVariants as cut
 use Rattle.lb_report.specs.declared.rounds.Halt.{Halt}
@@ -41,13 +43,11 @@ use Rattle.lb_report.specs.declared.rounds.Judged.{Judged}
 use Rattle.lb_report.specs.declared.rounds.Reading.{Reading}
 use Rattle.lb_report.specs.declared.rounds.Reading.TheVariants as reading
 use Rattle.lb_report.specs.declared.rounds.State.{State}
-use Rattle.lb_report.specs.declared.window.Window.{Window}
 use Rattle.lb_report.proofs.PartReads.{part_more, part_none, part_settled, round_held}
 use Rattle.lb_report.proofs.PieceTexts.{all_begins, all_on, begins_on, front_begins, front_done}
 use Rattle.lb_report.proofs.PieceTexts.{front_on, none_read, piece_begins, piece_cut, piece_read}
 use Rattle.lb_report.proofs.PieceTexts.{pieces_on, pieces_text}
 use Rattle.lb_report.proofs.RestReads.{rest_halted_on}
-use Rattle.lb_report.proofs.WindowReads.{fault_on, read_none, read_on}
 
 -- ## Records that are added to a round
 

@@ -15,11 +15,11 @@ use Rattle.lb_trace.specs.Texts.{IsFront}
 use Rattle.lb_trace.proofs.Lines.{plain-none}
 use Rattle.lb_trace.proofs.PlainRecords.{plain_text}
 use Rattle.lb_trace.proofs.TextReadings.{front_ended, front_more, front_none}
+use Rattle.lb_feed.specs.Windows.{HasRead, HasTaken, IsWindow, Left, bytes_left, text_in}
+use Rattle.lb_feed.specs.Windows.{turns_left}
+use Rattle.lb_feed.specs.declared.window.Window.{Window}
+use Rattle.lb_feed.proofs.WindowReads.{read_kept, read_on, taken_left, text_length}
 use Rattle.lb_report.specs.Pieces.{ArePiecesRead, BeginsWith, IsAllRead, IsFrontRead}
-use Rattle.lb_report.specs.Windows.{HasRead, HasTaken, IsWindow, Left, bytes_left, text_in}
-use Rattle.lb_report.specs.Windows.{turns_left}
-use Rattle.lb_report.specs.declared.window.Window.{Window}
-use Rattle.lb_report.proofs.WindowReads.{read_kept, read_on, taken_left, text_length}
 
 -- ## Texts of whole lines
 

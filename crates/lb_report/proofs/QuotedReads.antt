@@ -9,14 +9,14 @@ use Rattle.lb_trace.specs.Readers.{Reaches, TextReader}
 use Rattle.lb_trace.specs.Spelling.{Record, records_of}
 use Rattle.lb_trace.proofs.Readings.{reaches-first}
 use Rattle.lb_trace.proofs.TextReadings.{line_end_records}
+use Rattle.lb_feed.specs.Windows.{HasTaken, Left, text_in}
+use Rattle.lb_feed.specs.declared.window.Window.{Window}
 use Rattle.lb_report.specs.JudgedParts.{HasHalted, HasHaltedAt, IsHalt, IsJudgedFrom}
 use Rattle.lb_report.specs.JudgedParts.{IsJudgedPart, IsPartRead, IsRestHalted, IsRestJudged}
-use Rattle.lb_report.specs.Windows.{HasTaken, Left, text_in}
 use Rattle.lb_report.specs.declared.rounds.Halt.{Halt}
 use Rattle.lb_report.specs.declared.rounds.Halt.TheVariants as halt
 use Rattle.lb_report.specs.declared.rounds.Judged.{Judged}
 use Rattle.lb_report.specs.declared.rounds.State.{State}
-use Rattle.lb_report.specs.declared.window.Window.{Window}
 
 -- ## Record by record
 

@@ -15,17 +15,17 @@ use Rattle.lb_trace.specs.Spelling.{Record, after_first, is_header, records_of}
 use Rattle.lb_trace.specs.Tables.{columns_in}
 use Rattle.lb_trace.proofs.Outcomes.{outcome-records, reading-rows}
 use Rattle.lb_trace.proofs.TextReadings.{refused_on}
+use Rattle.lb_feed.specs.Windows.{HasTaken, Left, text_in}
+use Rattle.lb_feed.specs.declared.window.Window.{Window}
+use Rattle.lb_feed.proofs.WindowReads.{fault_on, read_on}
 use Rattle.lb_report.specs.JudgedParts.{HasHaltedAt, HasRefusedText, IsHalt, IsHeadHalted}
 use Rattle.lb_report.specs.JudgedParts.{IsJudgedFrom, IsLastHalt, IsPartRead, IsTextJudged}
 use Rattle.lb_report.specs.JudgedParts.{IsTextRefused}
 use Rattle.lb_report.specs.QuotedTexts.{IsWholeJudged, IsWholeRefused}
-use Rattle.lb_report.specs.Windows.{HasTaken, Left, text_in}
 use Rattle.lb_report.specs.declared.rounds.Halt.{Halt}
 use Rattle.lb_report.specs.declared.rounds.Halt.TheVariants as halt
 use Rattle.lb_report.specs.declared.rounds.Judged.{Judged}
 use Rattle.lb_report.specs.declared.rounds.State.{State}
-use Rattle.lb_report.specs.declared.window.Window.{Window}
-use Rattle.lb_report.proofs.WindowReads.{fault_on, read_on}
 
 -- ## Records
 

@@ -1,8 +1,7 @@
 -- A file whose header is read from its first bytes, and the rest in sections.
 use Rattle.std.proofs.Common.{ℕ, Bool, ◌≡◌, ◌∙◌, ◌+◌, ◌-◌, ◌<◌, ◌≤◌, true, List, [], ◌++◌}
-use Rattle.std.proofs.Common.{None, Option, Some, Result, Ok, Err, append_assoc, ap, arith, drop}
-use Rattle.std.proofs.Common.{inl, length, length-append, subst, sym, take, ⊎_elim}
-use Rattle.std.proofs.Math.Seq.{drop-append_seam, take_all}
+use Rattle.std.proofs.Common.{Option, Some, Result, Ok, Err, ap, arith, inl, length, length-append}
+use Rattle.std.proofs.Common.{subst, sym, ⊎_elim}
 use Rattle.std.specs.Io.KnownBytes.{Consumes}
 use Rattle.std.specs.Prelude.{IfErr, IfOk, IfSome}
 use Rattle.csv.specs.Reading.{default_config, records}
@@ -15,56 +14,17 @@ use Rattle.lb_trace.specs.Tables.{columns_in}
 use Rattle.lb_trace.specs.declared.error.TraceError.{TraceError}
 use Rattle.lb_trace.specs.declared.table.ColumnTable.{ColumnTable}
 use Rattle.lb_trace.proofs.TextReadings.{head_outcome}
+use Rattle.lb_feed.specs.PlacedFiles.{between}
+use Rattle.lb_feed.specs.Ranges.{IsFileText}
+use Rattle.lb_feed.specs.Windows.{Left, text_in}
+use Rattle.lb_feed.specs.declared.window.Window.{Window}
+use Rattle.lb_feed.proofs.WholeFiles.{file_text}
 use Rattle.lb_report.specs.JudgedParts.{IsHeadRead}
-use Rattle.lb_report.specs.PlacedFiles.{between}
-use Rattle.lb_report.specs.Ranges.{AreRangesJudged, AreRangesRefused, IsFileJudged, IsFileText}
+use Rattle.lb_report.specs.Ranges.{AreRangesJudged, AreRangesRefused, IsFileJudged}
 use Rattle.lb_report.specs.Ranges.{IsOutcomeJudged, IsOutcomeRefused, IsRangesHalt}
-use Rattle.lb_report.specs.Windows.{Left, text_in}
 use Rattle.lb_report.specs.declared.rounds.Halt.{Halt}
 use Rattle.lb_report.specs.declared.rounds.Halt.TheVariants as halt
 use Rattle.lb_report.specs.declared.rounds.Judged.{Judged}
-use Rattle.lb_report.specs.declared.window.Window.{Window}
-
--- ## Behind a header
-
--- no more bytes come of a text than it has
-pub came_within : (text : List ℕ) (after : Option (List ℕ)) (more : List ℕ)
-    → Consumes (Some text) after more → length more ≤ length text
-came_within text after more came = by after came
-  where
-    by : (rest : Option (List ℕ)) → Consumes (Some text) rest more → length more ≤ length text
-    by None came = absurd came
-    by (Some rest) came = omega (arith, ap length came, length-append more rest)
-
--- the head of a file and the bytes from the end of the head on are the whole file
-text_whole : (all head behind text : List ℕ) (from size : ℕ) → all ≡ head ++ behind
-    → from ≡ length head → size ≡ length all → text ≡ between from size all → head ++ text ≡ all
-text_whole all head behind text from size whole at long is =
-    let rest : drop from all ≡ behind =
-    ap (λ n. drop n all) at ∙ ap (drop (length head)) whole ∙ drop-append_seam head behind in
-    let fits : length behind ≤ size - from =
-    omega (arith, ap (length {A = ℕ}) whole, length-append head behind, at, long) in
-    ap (λ t. head ++ t)
-    (is ∙ ap (take (size - from)) rest ∙ take_all (size - from) behind fits)
-    ∙ sym whole
-
--- a head that was read from the first bytes of a file, and the bytes behind it, are the whole file
-file_text : (bytes rest left : Option (List ℕ)) (first more head behind text : List ℕ)
-    (from size : ℕ) → Consumes bytes rest first → Consumes (Some first) left more
-    → more ≡ head ++ behind → from ≡ length head → IfSome bytes (λ all. size ≡ length all)
-    → IfSome bytes (λ all. text ≡ between from size all) → IsFileText bytes (head ++ text)
-file_text None rest left first more head behind text from size came read parts at long is = tt
-file_text (Some all) None left first more head behind text from size came read parts at long is =
-    absurd came
-file_text (Some all) (Some rest) None first more head behind text from size came read parts at
-    long is =
-    absurd read
-file_text (Some all) (Some rest) (Some last) first more head behind text from size came read parts
-    at long is =
-    let whole : all ≡ head ++ ((behind ++ last) ++ rest) =
-    came ∙ ap (λ t. t ++ rest) (read ∙ ap (λ t. t ++ last) parts ∙ append_assoc head behind last)
-    ∙ append_assoc head (behind ++ last) rest in
-    text_whole all head ((behind ++ last) ++ rest) text from size whole at long is
 
 module _ (p : FlatProgram) (elements : Elements) (table : ColumnTable)
     (bytes : Option (List ℕ)) (size : ℕ) (long : IfSome bytes (λ all. size ≡ length all))

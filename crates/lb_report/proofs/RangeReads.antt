@@ -1,7 +1,7 @@
 -- Sections of a file, each judged by itself, one after the other.
 use Rattle.std.proofs.Common.{ℕ, zero, suc, ◌≡◌, ◌⊎◌, ◌∙◌, ◌+◌, ◌-◌, ◌<◌, ◌≤◌, ◌==◌, Bool, true}
 use Rattle.std.proofs.Common.{None, Option, Some, false, List, [], ◌∷◌, ◌++◌, Result, Ok, Err, ap}
-use Rattle.std.proofs.Common.{append_assoc, arith, get_or, inl, inr, length, length-append, min}
+use Rattle.std.proofs.Common.{append_assoc, arith, get_or, inl, inr, length, length-append}
 use Rattle.std.proofs.Common.{refl, subst, sym, take}
 use Rattle.std.proofs.lemmas.Bool.{cases_lt, false≢true, ne_eqb}
 use Rattle.std.proofs.lemmas.List.{append-nil, take_all}
@@ -25,80 +25,33 @@ use Rattle.lb_trace.specs.Tables.{columns_in}
 use Rattle.lb_trace.specs.Texts.{IsFront}
 use Rattle.lb_trace.proofs.PlainRecords.{plain_text}
 use Rattle.lb_trace.proofs.TextReadings.{front_ended, front_more, front_none, refused_on}
-use Rattle.lb_output.specs.Counts.{count_more}
+use Rattle.lb_feed.specs.Counts.{count_more}
+use Rattle.lb_feed.specs.PlacedFiles.{between, told_between}
+use Rattle.lb_feed.specs.Ranges.{AreRangeEnds, IsRange, IsFileFault}
+use Rattle.lb_feed.specs.SectionEnds.{start_of}
+use Rattle.lb_feed.specs.Windows.{HasRead, IsLoadFault, Left, ended_by, text_in}
+use Rattle.lb_feed.specs.declared.feed.LoadError.{LoadError}
+use Rattle.lb_feed.specs.declared.feed.LoadError.TheVariants as load
+use Rattle.lb_feed.specs.declared.window.Window.{Window}
+use Rattle.lb_feed.proofs.Counts.{read_from}
+use Rattle.lb_feed.proofs.RangeEnds.{next_start, range_past, range_start}
+use Rattle.lb_feed.proofs.PlacedFiles.{all_between, between_long, between_more, between_none, still}
+use Rattle.lb_feed.proofs.PlacedFiles.{still_between, still_none, still_short}
+use Rattle.lb_feed.proofs.Sectioning.{joined}
+use Rattle.lb_feed.proofs.WindowReads.{ended_all}
 use Rattle.lb_report.specs.JudgedParts.{HasRefused, IsJudgedPart, IsPiecesJudged}
 use Rattle.lb_report.specs.JudgedParts.{IsRestJudged, IsRestRefused}
-use Rattle.lb_report.specs.PlacedFiles.{between, told_between}
-use Rattle.lb_report.specs.Ranges.{AreRangeEnds, AreRangesJudged, AreRangesRefused, IsRange}
-use Rattle.lb_report.specs.Ranges.{IsFileFault, IsRangeJudged, IsRangeTold, IsRangesHalt}
-use Rattle.lb_report.specs.SectionEnds.{AreEnds, start_of}
+use Rattle.lb_report.specs.Ranges.{AreRangesJudged, AreRangesRefused}
+use Rattle.lb_report.specs.Ranges.{IsRangeJudged, IsRangeTold, IsRangesHalt}
 use Rattle.lb_report.specs.Sections.{AreAppended, IsRefusedWithin, IsSection, KeepsRoll, lines_of}
 use Rattle.lb_report.specs.Sections.{IsHaltAfter, IsSetAside, IsToldOn}
-use Rattle.lb_report.specs.Windows.{HasRead, IsLoadFault, Left, ended_by, text_in}
-use Rattle.lb_report.specs.declared.feed.LoadError.{LoadError}
-use Rattle.lb_report.specs.declared.feed.LoadError.TheVariants as load
 use Rattle.lb_report.specs.declared.rounds.Halt.{Halt}
 use Rattle.lb_report.specs.declared.rounds.Halt.TheVariants as halt
 use Rattle.lb_report.specs.declared.rounds.Judged.{Judged}
 use Rattle.lb_report.specs.declared.sections.Appended.{Appended}
-use Rattle.lb_report.specs.declared.window.Window.{Window}
-use Rattle.lb_report.proofs.PlacedFiles.{all_between, between_long, between_more, between_none}
-use Rattle.lb_report.proofs.PlacedFiles.{still, still_between, still_none, still_short}
 use Rattle.lb_report.proofs.SectionJoins.{ArePlain}
-use Rattle.lb_report.proofs.Sectioning.{joined}
-use Rattle.lb_report.proofs.WindowReads.{ended_all}
-
--- ## The begins and ends of sections
-
-pub end_within : (from size : ℕ) (ends : List ℕ) → AreEnds from size ends → (left i : ℕ)
-    → i + left + 1 ≡ length ends → get_or ends i 0 ≤ size
-end_within from size ends are zero i is =
-    let at : length ends - 1 ≡ i = omega (arith, is) in
-    let same : get_or ends i 0 ≡ size =
-    ap (λ k. get_or ends k 0) (sym at) ∙ are.last in
-    omega (arith, same)
-end_within from size ends are (suc left) i is =
-    let up : get_or ends i 0 ≤ get_or ends (suc i) 0 =
-    are.ordered (suc i) (omega (arith, is)) in
-    let on : get_or ends (suc i) 0 ≤ size =
-    end_within from size ends are left (suc i) (omega (arith, is)) in
-    omega (arith, up, on)
-
-pub range_past : (from size : ℕ) (ends : List ℕ) → AreRangeEnds from size ends → (i : ℕ)
-    → i < length ends → get_or ends i 0 ≤ size
-range_past from size ends are i within =
-    end_within from size ends are.follow (length ends - 1 - i) i (omega (arith, within))
-
--- each section begins at `size` or before it
-start_within : (from size : ℕ) (ends : List ℕ) → AreEnds from size ends → (left i : ℕ)
-    → i + left ≡ length ends → start_of from ends i ≤ size
-start_within from size ends are left zero is =
-    let first : from ≤ get_or ends 0 0 = are.ordered 0 are.some in
-    let on : get_or ends 0 0 ≤ size =
-    end_within from size ends are (length ends - 1) 0 (omega (arith, are.some)) in
-    omega (arith, first, on)
-start_within from size ends are left (suc i) is =
-    end_within from size ends are left i (omega (arith, is))
-
-pub range_start : (from size : ℕ) (ends : List ℕ) → AreRangeEnds from size ends → (i : ℕ)
-    → i ≤ length ends → start_of from ends i ≤ size
-range_start from size ends are i within =
-    start_within from size ends are.follow (length ends - i) i (omega (arith, within))
-
-next_start : (from : ℕ) (ends : List ℕ) (k : ℕ) → start_of from ends (k + 1) ≡ get_or ends k 0
-next_start from ends k = let one : k + 1 ≡ suc k = omega arith in ap (start_of from ends) one
 
 -- ## The result for one section
-
--- reads that stopped before `limit` read `count` bytes
-count_from : (limit start count at : ℕ) → at ≡ start + min count (limit - start) → at < limit
-    → at ≡ start + count
-count_from limit start count at is below = omega (arith, is, below)
-
-pub read_from : (start count at : ℕ) → at ≡ count_more start count → at ≤ 1073741824
-    → at ≡ start + count
-read_from start count at is short =
-    count_from 18446744073709551615 start count at is (omega (arith, short))
 
 module _ (p : FlatProgram) (elements : Elements) (table : ColumnTable)
     (bytes : Option (List ℕ)) (start past : ℕ) (last : Bool) (w after : Window) (old new : Left)

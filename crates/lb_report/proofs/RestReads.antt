@@ -14,20 +14,20 @@ use Rattle.lb_trace.specs.Spelling.{Record}
 use Rattle.lb_trace.specs.Tables.{columns_in}
 use Rattle.lb_trace.specs.Texts.{IsFront}
 use Rattle.lb_trace.proofs.TextReadings.{head_outcome, refused_on}
+use Rattle.lb_feed.specs.Windows.{HasRead, Left, text_in}
+use Rattle.lb_feed.specs.declared.feed.LoadError.{LoadError}
+use Rattle.lb_feed.specs.declared.window.Window.{Window}
+use Rattle.lb_feed.proofs.WindowReads.{fault_on, read_on}
 use Rattle.lb_report.specs.JudgedParts.{HasHalted, HasRefused, HasRefusedText, IsHalt}
 use Rattle.lb_report.specs.JudgedParts.{IsHeadRead, IsJudgedPart, IsLastHalt, IsRestHalted}
 use Rattle.lb_report.specs.JudgedParts.{IsRestJudged, IsRestRead, IsRestRefused, IsTextJudged}
 use Rattle.lb_report.specs.JudgedParts.{IsTextRefused}
 use Rattle.lb_report.specs.Pieces.{BeginsWith}
-use Rattle.lb_report.specs.Windows.{HasRead, Left, text_in}
-use Rattle.lb_report.specs.declared.feed.LoadError.{LoadError}
 use Rattle.lb_report.specs.declared.rounds.Halt.{Halt}
 use Rattle.lb_report.specs.declared.rounds.Halt.TheVariants as halt
 use Rattle.lb_report.specs.declared.rounds.Judged.{Judged}
 use Rattle.lb_report.specs.declared.rounds.State.{State}
-use Rattle.lb_report.specs.declared.window.Window.{Window}
 use Rattle.lb_report.proofs.PieceTexts.{begins_on, joined_text}
-use Rattle.lb_report.proofs.WindowReads.{fault_on, read_on}
 
 -- ## Two steps
 

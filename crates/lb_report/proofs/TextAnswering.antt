@@ -3,12 +3,12 @@ use Rattle.std.proofs.Common.{◌≡◌, ◌∙◌, ◌<◌, ◌++◌, List, ℕ
 use Rattle.std.proofs.Common.{ap, append-nil, length, subst, sym}
 use Rattle.std.specs.Io.KnownBytes.{Consumes, IsAtEnd}
 use Rattle.lb_syntax.specs.Tokens.{Text}
+use Rattle.lb_feed.specs.Windows.{Left}
 use Rattle.lb_report.specs.AcceptedPrograms.{IsAcceptedProgram}
 use Rattle.lb_report.specs.Bench.{IsRefused, OnlyProgram, program_of}
 use Rattle.lb_report.specs.Correct.{IsBenchAnswer}
 use Rattle.lb_report.specs.FeedAnswers.{IsAnswerOnFeed}
 use Rattle.lb_report.specs.FeedJudging.{too_long}
-use Rattle.lb_report.specs.Windows.{Left}
 use Rattle.lb_report.specs.declared.answer.AcceptedProgram.{AcceptedProgram}
 use Rattle.lb_refusal.specs.declared.error.BenchError.{BenchError}
 use Rattle.lb_refusal.specs.declared.options.Options.{Options}

@@ -3,13 +3,13 @@
 use Rattle.std.specs.Prelude.{◌≡◌, ◌<◌, ◌⊎◌, length, Result, Ok, Err}
 use Rattle.std.specs.Io.KnownBytes.{Consumes, IsAtEnd}
 use Rattle.lb_syntax.specs.Tokens.{Text}
+use Rattle.lb_feed.specs.Counts.{count_more}
+use Rattle.lb_feed.specs.Feeds.{IsTooLong}
+use Rattle.lb_feed.specs.Windows.{Left}
+use Rattle.lb_feed.specs.declared.feed.LoadError.{LoadError}
+use Rattle.lb_feed.specs.declared.feed.LoadError.TheVariants as load
 use Rattle.lb_report.specs.Correct.{IsBenchAnswer}
-use Rattle.lb_output.specs.Counts.{count_more}
-use Rattle.lb_report.specs.Feeds.{IsTooLong}
-use Rattle.lb_report.specs.Windows.{Left}
 use Rattle.lb_refusal.specs.declared.error.BenchError.{BenchError}
-use Rattle.lb_report.specs.declared.feed.LoadError.{LoadError}
-use Rattle.lb_report.specs.declared.feed.LoadError.TheVariants as load
 use Rattle.lb_report.specs.declared.feeding.FeedFault.{FeedFault}
 use Rattle.lb_report.specs.declared.feeding.FeedFault.TheVariants as fault
 use Rattle.lb_refusal.specs.declared.options.Options.{Options}

@@ -11,9 +11,10 @@ use Rattle.lb_trace.specs.Refusals.{outcome}
 use Rattle.lb_trace.specs.Errors.{error_number}
 use Rattle.lb_trace.specs.declared.error.TraceError.{TraceError}
 use Rattle.lb_trace.specs.declared.error.TraceError.TheVariants as trace
+use Rattle.lb_feed.specs.Windows.{HasRead, IsLoadFault, Left, text_in}
+use Rattle.lb_feed.specs.declared.window.Window.{Window}
 use Rattle.lb_report.specs.Bench.{AreVerdicts, IsRefused, OnlyProgram}
 use Rattle.lb_report.specs.JudgedParts.{HasRefusedText}
-use Rattle.lb_report.specs.Windows.{HasRead, IsLoadFault, Left, text_in}
 use Rattle.lb_refusal.specs.declared.error.BenchError.{BenchError}
 use Rattle.lb_refusal.specs.declared.error.BenchError.TheVariants as part
 use Rattle.lb_report.specs.declared.feeding.FeedFault.{FeedFault}
@@ -22,7 +23,6 @@ use Rattle.lb_refusal.specs.declared.options.Options.{Options}
 use Rattle.lb_report.specs.declared.rounds.Halt.{Halt}
 use Rattle.lb_report.specs.declared.rounds.Halt.TheVariants as halt
 use Rattle.lb_report.specs.declared.rounds.Judged.{Judged}
-use Rattle.lb_report.specs.declared.window.Window.{Window}
 
 -- a program has judged the traces of a feed; all bytes of the feed spell them, if they are not too
 -- many

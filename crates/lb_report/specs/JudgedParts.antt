@@ -19,9 +19,10 @@ use Rattle.lb_trace.specs.Spelling.{Record, records_of}
 use Rattle.lb_trace.specs.Tables.{columns_in}
 use Rattle.lb_trace.specs.Texts.{IsHead}
 use Rattle.lb_pool.specs.Correct.{AreVerdicts}
+use Rattle.lb_feed.specs.Windows.{HasRead, HasTaken, IsLoadFault, IsWindow, Left, text_in}
+use Rattle.lb_feed.specs.declared.feed.LoadError.{LoadError}
+use Rattle.lb_feed.specs.declared.window.Window.{Window}
 use Rattle.lb_report.specs.Pieces.{BeginsWith, IsAllRead, IsFrontRead, IsOpenRound}
-use Rattle.lb_report.specs.Windows.{HasRead, HasTaken, IsLoadFault, IsWindow, Left, text_in}
-use Rattle.lb_report.specs.declared.feed.LoadError.{LoadError}
 use Rattle.lb_report.specs.declared.pieces.Cut.{Cut}
 use Rattle.lb_report.specs.declared.pieces.Cut.TheVariants as cut
 use Rattle.lb_report.specs.declared.rounds.Halt.{Halt}
@@ -30,7 +31,6 @@ use Rattle.lb_report.specs.declared.rounds.Judged.{Judged}
 use Rattle.lb_report.specs.declared.rounds.Reading.{Reading}
 use Rattle.lb_report.specs.declared.rounds.Reading.TheVariants as reading
 use Rattle.lb_report.specs.declared.rounds.State.{State}
-use Rattle.lb_report.specs.declared.window.Window.{Window}
 
 -- `j` holds the names and verdicts of `traces`
 pub record AreJudgedTraces (p : FlatProgram) (elements : Elements) (traces : Traces) (j : Judged)

@@ -1,4 +1,3 @@
-pub mod Cases
 pub mod Causality
 pub mod FirstRefusals
 pub mod Bench
@@ -6,17 +5,12 @@ pub mod Correct
 pub mod AcceptedPrograms
 pub mod LiveReports
 pub mod Judging
-pub mod Feeds
-pub mod Windows
 pub mod Pieces
 pub mod JudgedParts
 pub mod Turns
 pub mod FeedAnswers
 pub mod FeedJudging
-pub mod SectionEnds
 pub mod Sections
 pub mod QuotedTexts
-pub mod PlacedFiles
 pub mod Ranges
 pub mod RangeAnswers
-pub mod FileChunks

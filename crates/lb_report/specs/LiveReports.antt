@@ -14,10 +14,10 @@ use Rattle.lb_plan.specs.Plans.{numbers_in}
 use Rattle.lb_output.specs.Reports.{report_of}
 use Rattle.lb_output.specs.Taken.{Taken, TakesNothing}
 use Rattle.lb_output.specs.declared.follow_error.FollowError.{FollowError}
+use Rattle.lb_feed.specs.Ranges.{IsFileText}
 use Rattle.lb_report.specs.AcceptedPrograms.{IsAcceptedProgram}
 use Rattle.lb_report.specs.Bench.{AreVerdicts, IsOnlyRecording, IsRefused, OnlyProgram}
 use Rattle.lb_report.specs.Correct.{IsFirstTold, first_of}
-use Rattle.lb_report.specs.Ranges.{IsFileText}
 use Rattle.lb_refusal.specs.Refusals.{number_of}
 use Rattle.lb_refusal.specs.declared.error.BenchError.{BenchError}
 use Rattle.lb_report.specs.declared.live.FollowFault.{FollowFault}

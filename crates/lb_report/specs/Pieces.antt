@@ -14,10 +14,10 @@ use Rattle.lb_trace.specs.Refusals.{with_records}
 use Rattle.lb_trace.specs.Spelling.{Record}
 use Rattle.lb_trace.specs.Tables.{columns_in}
 use Rattle.lb_trace.specs.Texts.{IsFront}
-use Rattle.lb_report.specs.Windows.{GoesOn, HasRead, IsLoadFault, IsWindow, Left, text_in}
+use Rattle.lb_feed.specs.Windows.{GoesOn, HasRead, IsLoadFault, IsWindow, Left, text_in}
+use Rattle.lb_feed.specs.declared.window.Window.{Window}
 use Rattle.lb_report.specs.declared.pieces.Cut.{Cut}
 use Rattle.lb_report.specs.declared.pieces.Cut.TheVariants as cut
-use Rattle.lb_report.specs.declared.window.Window.{Window}
 
 -- ## The text of pieces
 

@@ -3,8 +3,8 @@
 use Rattle.std.specs.Prelude.{ℕ, List, Option, Result, Ok, Err, Bool as Truth}
 use Rattle.lb_syntax.specs.Tokens.{Text}
 use Rattle.lb_output.specs.declared.text.Report.{Report}
+use Rattle.lb_feed.specs.Ranges.{IsFileFault, IsFileText}
 use Rattle.lb_report.specs.Correct.{IsBenchAnswer}
-use Rattle.lb_report.specs.Ranges.{IsFileFault, IsFileText}
 use Rattle.lb_report.specs.declared.feeding.FeedFault.{FeedFault}
 use Rattle.lb_report.specs.declared.feeding.FeedFault.TheVariants as fault
 use Rattle.lb_refusal.specs.declared.options.Options.{Options}

@@ -1,7 +1,7 @@
 -- Sections of a file, each judged by itself.
 -- This file says what data of the program mean; no definition of the language stands on it.
 use Rattle.std.specs.Prelude.{ℕ, ◌≡◌, ◌≤◌, ◌+◌, List, [], ◌++◌, length, Option, Result, Ok, Err}
-use Rattle.std.specs.Prelude.{Bool as Truth, true, false, IfSome}
+use Rattle.std.specs.Prelude.{Bool as Truth, false}
 use Rattle.csv.specs.Reading.{default_config, records}
 use Rattle.lb_static.specs.Signature.{Elements}
 use Rattle.lb_traces.specs.Traces.{Traces}
@@ -14,26 +14,12 @@ use Rattle.lb_trace.specs.Tables.{columns_in}
 use Rattle.lb_trace.specs.Texts.{IsFront}
 use Rattle.lb_trace.specs.declared.error.TraceError.{TraceError}
 use Rattle.lb_trace.specs.declared.table.ColumnTable.{ColumnTable}
+use Rattle.lb_feed.specs.Ranges.{IsFileFault, IsFileText, IsRange}
 use Rattle.lb_report.specs.JudgedParts.{AreJudgedTraces, IsJudgedPart}
-use Rattle.lb_report.specs.PlacedFiles.{between}
-use Rattle.lb_report.specs.SectionEnds.{AreEnds}
 use Rattle.lb_report.specs.Sections.{IsSectionJudged, IsSetAside}
-use Rattle.lb_report.specs.declared.feed.LoadError.{LoadError}
-use Rattle.lb_report.specs.declared.feed.LoadError.TheVariants as load
 use Rattle.lb_report.specs.declared.rounds.Halt.{Halt}
 use Rattle.lb_report.specs.declared.rounds.Halt.TheVariants as halt
 use Rattle.lb_report.specs.declared.rounds.Judged.{Judged}
-
--- sections follow one another from a place of a file to its size, which is not too large
-pub record AreRangeEnds (from size : ℕ) (ends : List ℕ) : Type 0 where
-  pub follow : AreEnds from size ends
-  pub short : size ≤ 1073741824
-
--- `text` is the bytes of a file from `start` to `past`, where it tells them, and short enough for a
--- trace text
-pub record IsRange (bytes : Option (List ℕ)) (start past : ℕ) (text : List ℕ) : Type 0 where
-  pub short : start + length text ≤ 1073741824
-  pub is : IfSome bytes (λ all. text ≡ between start past all)
 
 -- a section of a file is judged by itself; where other sections stand behind it, its bytes are
 -- whole lines that end before the next one begins
@@ -72,11 +58,6 @@ pub record AreRangesRefused (elements : Elements) (table : ColumnTable) (rows : 
       IsRefusal
       (with_records elements (columns_in table) [] (rows ++ records default_config text)) e
 
--- why a file was not read: memory ran out, or a read of it failed, as it may
-abbrev pub IsFileFault : (may_fail : Truth) → LoadError → Type 0
-IsFileFault may_fail load.Memory = Unit {0}
-IsFileFault may_fail load.Read = may_fail ≡ true
-
 -- the bytes of a file between two places are refused behind `rows`, or could not be read
 abbrev pub IsRangesHalt :
     Elements → ColumnTable → (rows : List Record) → (bytes : Option (List ℕ)) → (may_fail : Truth)
@@ -89,10 +70,6 @@ IsRangesHalt elements table rows bytes may_fail from size (halt.Stopped judged l
 IsRangesHalt elements table rows bytes may_fail from size halt.Quoted = Unit {0}
 
 -- ## A whole file
-
--- all bytes of a file, where it tells them
-abbrev pub IsFileText : (bytes : Option (List ℕ)) → (text : List ℕ) → Type 0
-IsFileText bytes text = IfSome bytes (λ all. text ≡ all)
 
 -- the bytes of a file are judged, as a text
 pub record IsOutcomeJudged (p : FlatProgram) (elements : Elements) (bytes : Option (List ℕ))

@@ -5,11 +5,11 @@ use Rattle.lb_static.specs.Signature.{Elements}
 use Rattle.lb_flat.specs.declared.program.FlatProgram.{FlatProgram}
 use Rattle.lb_trace.specs.declared.table.ColumnTable.{ColumnTable}
 use Rattle.lb_trace.specs.Spelling.{Record}
+use Rattle.lb_feed.specs.Windows.{GoesOn, IsWindow, Left}
+use Rattle.lb_feed.specs.declared.window.Window.{Window}
 use Rattle.lb_report.specs.JudgedParts.{IsMoreRead, IsPartRead, IsReading, IsReadOn, IsState}
-use Rattle.lb_report.specs.Windows.{GoesOn, IsWindow, Left}
 use Rattle.lb_report.specs.declared.rounds.Reading.{Reading}
 use Rattle.lb_report.specs.declared.rounds.State.{State}
-use Rattle.lb_report.specs.declared.window.Window.{Window}
 
 -- more has been read behind the state `s`, which gave `next`
 pub record IsTurned (p : FlatProgram) (elements : Elements) (table : ColumnTable)

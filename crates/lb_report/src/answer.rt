@@ -10,15 +10,14 @@
 
 ghost use Rattle.std.specs.Prelude.{◌<◌, IfOk, IfErr, length};
 ghost use Rattle.lb_syntax.specs.Tokens.{Text};
+ghost use Rattle.lb_feed.specs.Cases.{parts_of};
 ghost use Rattle.lb_report.specs.Bench.{IsRefused, OnlyProgram};
-ghost use Rattle.lb_report.specs.Cases.{parts_of};
 ghost use Rattle.lb_report.specs.Correct.{IsBenchAnswer};
 ghost use Rattle.lb_report.specs.AcceptedPrograms.{IsAcceptedProgram};
 
-use crate::case::split_case;
 use crate::feeding::{FeedFault, MOST_BYTES, Sizes, bench_feed, too_long};
 use crate::program::Program;
-use crate::sections::TextFeed;
+use lb_feed::{TextFeed, split_case};
 use lb_flat::Ordered;
 use lb_pool::Report;
 use lb_refusal::{BenchError, Options};

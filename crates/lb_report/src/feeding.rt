@@ -3,6 +3,7 @@
 ghost use Rattle.std.specs.Prelude.{◌≡◌, ◌<◌, ◌≤◌, ◌*◌, IfErr, IfOk, IfSome, OnOk, length};
 ghost use Rattle.lb_traces.specs.Traces.{trace_names};
 ghost use Rattle.lb_output.specs.Reports.{IsReport};
+ghost use Rattle.lb_feed.specs.Windows.{IsWindow, left};
 ghost use Rattle.lb_report.specs.Bench.{OnlyProgram};
 ghost use Rattle.lb_report.specs.FeedAnswers.{IsFeedAnswer};
 ghost use Rattle.lb_report.specs.FeedJudging.{IsJudgingFault, IsLastFault, IsProgramJudged};
@@ -10,14 +11,11 @@ ghost use Rattle.lb_report.specs.FeedJudging.{fault_by, told_first, too_long};
 ghost use Rattle.lb_report.specs.JudgedParts.{IsTextJudged, IsTextRefused};
 ghost use Rattle.lb_report.specs.RangeAnswers.{IsFileAnswer};
 ghost use Rattle.lb_report.specs.Ranges.{IsFileJudged};
-ghost use Rattle.lb_report.specs.Windows.{IsWindow, left};
 
 use crate::answer::{AcceptedProgram, accept};
-use crate::feed::{Feed, LoadError};
-use crate::placed::{PlacedFile, bytes_from};
 use crate::rounds::{Halt, Judged, Rounds, row_bytes};
-use crate::sections::{TextFeed, ends_in_file, judge_ranges};
-use crate::window::Window;
+use crate::sections::{ends_in_file, judge_ranges};
+use lb_feed::{Feed, LoadError, PlacedFile, TextFeed, Window, bytes_from};
 use lb_pool::{LaneProgram, Report, SetRunner, compile};
 use lb_refusal::{BenchError, Options};
 use lb_trace::TraceError;

@@ -2,32 +2,27 @@
 #![tactic(auto)]
 
 mod answer;
-mod case;
-mod feed;
 mod feeding;
-mod file_chunks;
 mod judging;
 mod laws;
 mod live;
 mod pieces;
-mod placed;
 mod program;
 mod quoted;
 mod rounds;
 mod sections;
 mod turns;
-mod window;
 
 pub use answer::{bench, run_case};
-pub use case::split_case;
-pub use feed::{Feed, FeedFailed, LoadError, Reader, load};
 pub use feeding::{FeedFault, Sizes, bench_feed, bench_ranges};
 pub use judging::judge;
 pub use laws::first_refusal_is_computed;
+pub use lb_feed::{
+    Feed, FeedFailed, FilePlaces, LoadError, PlacedFile, Reader, TextPlaces, load, split_case,
+};
 pub use lb_pool::{
     FollowError, Gate, NoGate, Report, Sent, Sink, SinkFailed, Writer, report_text, send, status,
 };
 pub use lb_refusal::{BenchError, Options, word};
 pub use live::{FollowFault, follow, follow_file};
-pub use placed::{FilePlaces, PlacedFile, TextPlaces};
 pub use program::Program;

@@ -12,14 +12,13 @@ ghost use Rattle.lb_pool.specs.Correct.{AreVerdicts};
 ghost use Rattle.lb_output.specs.Follows.{IsFollowed};
 ghost use Rattle.lb_pool.specs.RightReports.{right_report};
 ghost use Rattle.lb_plan.specs.Plans.{numbers_in};
+ghost use Rattle.lb_feed.specs.FileChunks.{IsChunkAt};
 ghost use Rattle.lb_report.specs.Bench.{IsRefused};
-ghost use Rattle.lb_report.specs.FileChunks.{IsChunkAt};
 ghost use Rattle.lb_report.specs.LiveReports.{IsFileUnderWay, IsFollowAnswer, IsPrepared};
 ghost use Rattle.lb_report.specs.LiveReports.{IsPreparedFile};
 
 use crate::answer::{AcceptedProgram, accept};
-use crate::file_chunks::FileChunks;
-use crate::placed::PlacedFile;
+use lb_feed::{FileChunks, PlacedFile};
 use lb_pool::{FollowError, Gate, Plan, Sink, run_follow};
 use lb_refusal::{BenchError, Options};
 use lb_trace::{read_loaded, read_traces_by};

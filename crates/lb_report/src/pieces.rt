@@ -5,9 +5,8 @@
 
 ghost use Rattle.std.specs.Prelude.{◌≡◌, ◌<◌, ◌≤◌};
 
-use crate::feed::{Feed, LoadError};
 use crate::rounds::Rounds;
-use crate::window::Window;
+use lb_feed::{Feed, LoadError, Window};
 use lb_trace::{
     ColumnTable, RoundReader, Stopped, TraceError, first_line, has_line, is_plain, strip_bom,
     whole_traces,
@@ -43,8 +42,8 @@ impl Rounds<'_, '_> {
     ghost use Rattle.lb_trace.specs.Chunks.{is_ended};
     ghost use Rattle.lb_trace.specs.Plain.{plain_records};
     ghost use Rattle.lb_trace.specs.Tables.{IsColumnTable};
+    ghost use Rattle.lb_feed.specs.Windows.{HasTaken, IsLoadFault, IsWindow, left, text_in};
     ghost use Rattle.lb_report.specs.Pieces.{IsCutAt, IsFilling, IsOpenRound};
-    ghost use Rattle.lb_report.specs.Windows.{HasTaken, IsLoadFault, IsWindow, left, text_in};
 
     /// Reads until the window begins with whole lines and one of them is not empty, or the feed is
     /// over. Returns how many bytes these lines have, or all bytes of the window where the feed is

@@ -3,10 +3,9 @@
 //! A line end between quotes ends no record, so such a text is read by `csv`, and all that is left
 //! of it is in memory.
 
-use crate::feed::Feed;
 use crate::rounds::{Halt, Judged, Reading, Rounds, State};
-use crate::window::Window;
 use csv::{ByteRecord, Reader};
+use lb_feed::{Feed, Window};
 use lb_trace::{ColumnTable, TraceError, next, reader_of, table_of};
 use std::alloc::AllocError;
 use std::thread::Threads;
@@ -18,12 +17,12 @@ impl Rounds<'_, '_> {
     ghost use Rattle.lb_trace.specs.Rolls.{IsRoll};
     ghost use Rattle.lb_trace.specs.Spelling.{Record};
     ghost use Rattle.lb_trace.specs.Tables.{IsColumnTable};
+    ghost use Rattle.lb_feed.specs.Windows.{IsWindow, left};
     ghost use Rattle.lb_report.specs.JudgedParts.{HaltsPart, HaltsRest, HasHaltedAt, HasRoll};
     ghost use Rattle.lb_report.specs.JudgedParts.{IsHalt, IsJudgedFrom, IsPartRead};
     ghost use Rattle.lb_report.specs.JudgedParts.{IsRestRefused, IsState, IsTextJudged};
     ghost use Rattle.lb_report.specs.JudgedParts.{IsTextRefused, JudgesRest, KeepsPart};
     ghost use Rattle.lb_report.specs.QuotedTexts.{IsWholeJudged, IsWholeRefused};
-    ghost use Rattle.lb_report.specs.Windows.{IsWindow, left};
 
     /// Judges all traces of a feed.
     pub(crate) fn judge<R: Threads + Sync, F: Feed>(

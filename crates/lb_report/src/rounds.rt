@@ -17,9 +17,8 @@
 
 ghost use Rattle.std.specs.Prelude.{◌≡◌, ◌<◌, ◌≤◌, ◌++◌, IfOk, IsOkAnd};
 
-use crate::feed::{Feed, LoadError};
-use crate::window::Window;
 use lb_check::Verdict;
+use lb_feed::{Feed, LoadError, Window};
 use lb_pool::{NoGate, Plan, RoundRoom, SetRunner, run_workers};
 use lb_static::Signature;
 use lb_syntax::Kind;
@@ -198,14 +197,14 @@ impl Rounds<'_, '_> {
     ghost use Rattle.lb_trace.specs.Spelling.{Record};
     ghost use Rattle.lb_trace.specs.Tables.{IsColumnTable};
     ghost use Rattle.lb_trace.specs.declared.table.ColumnTable.{ColumnTable as Table};
+    ghost use Rattle.lb_feed.specs.Windows.{IsWindow, left};
+    ghost use Rattle.lb_feed.specs.declared.feed.LoadError.{LoadError};
     ghost use Rattle.lb_report.specs.JudgedParts.{HaltsPart, HasRoll, IsHalt, IsHeadHalted};
     ghost use Rattle.lb_report.specs.JudgedParts.{IsHeadRead, IsJudgedPart, IsLastHalt, IsNamed};
     ghost use Rattle.lb_report.specs.JudgedParts.{IsPartRead, IsPiecesJudged, IsReading, IsReadOn};
     ghost use Rattle.lb_report.specs.JudgedParts.{IsState, JudgesPart, KeepsPart, RefusesNames};
     ghost use Rattle.lb_report.specs.declared.rounds.Halt.TheVariants.{Load};
-    ghost use Rattle.lb_report.specs.declared.feed.LoadError.{LoadError};
     ghost use Rattle.lb_report.specs.Sections.{IsSetAside};
-    ghost use Rattle.lb_report.specs.Windows.{IsWindow, left};
 
     /// An empty round with room for its cells and a quarter more.
     pub(crate) fn new_round(&self) -> Result<RoundReader, AllocError>

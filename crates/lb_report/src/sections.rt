@@ -9,25 +9,22 @@
 //! after the other in the order of the file.
 
 ghost use Rattle.std.specs.Prelude.{◌≡◌, ◌<◌, ◌≤◌, [], ℕ, List, IfErr, IfOk, IfSome};
-ghost use Rattle.std.specs.Prelude.{◌==◌, ◌+◌, get_or, length, true};
+ghost use Rattle.std.specs.Prelude.{◌==◌, ◌+◌, get_or, length};
 ghost use Rattle.std.specs.List.{All, AllZip, range_with_len};
 ghost use Rattle.lb_flat.specs.declared.program.FlatProgram.{FlatProgram};
 ghost use Rattle.lb_static.specs.Signature.{Elements};
 ghost use Rattle.lb_trace.specs.Rolls.{IsRoll};
 ghost use Rattle.lb_trace.specs.Spelling.{Record};
 ghost use Rattle.lb_trace.specs.Tables.{IsColumnTable};
+ghost use Rattle.lb_feed.specs.Ranges.{AreRangeEnds};
+ghost use Rattle.lb_feed.specs.SectionEnds.{AreEnds, start_of};
 ghost use Rattle.lb_report.specs.JudgedParts.{IsJudgedPart};
-ghost use Rattle.lb_report.specs.PlacedFiles.{told_between};
-ghost use Rattle.lb_report.specs.Ranges.{AreRangeEnds, AreRangesJudged, IsRangeTold, IsRangesHalt};
-ghost use Rattle.lb_report.specs.SectionEnds.{AreEnds, start_of};
+ghost use Rattle.lb_report.specs.Ranges.{AreRangesJudged, IsRangeTold, IsRangesHalt};
 ghost use Rattle.lb_report.specs.Sections.{AreAppended, IsRefusedWithin, IsSection, KeepsRoll};
 ghost use Rattle.lb_report.specs.Sections.{is_alone};
-ghost use Rattle.lb_report.specs.Windows.{left};
 
-use crate::feed::{Feed, FeedFailed};
-use crate::placed::PlacedFile;
 use crate::rounds::{Halt, Judged, Rounds};
-use crate::window::Window;
+use lb_feed::{Feed, PlacedFile, RangeFeed, Window, start_at};
 use lb_trace::{ColumnTable, TraceError, whole_traces};
 use rayon::prelude::*;
 use std::alloc::{AllocError, Global};
@@ -37,111 +34,6 @@ use std::thread::Threads;
 const PROBE: usize = 1 << 16;
 
 const MOST_PROBE: usize = 1 << 22;
-
-/// A text in memory, as a feed.
-#[derive(Drop)]
-pub(crate) struct TextFeed<'t> {
-    rest: &'t [u8],
-    given: u64,
-}
-
-impl<'t> TextFeed<'t> {
-    ghost use Rattle.std.specs.Prelude.{Some};
-
-    /// A feed that has given nothing.
-    pub(crate) fn new(text: &'t [u8]) -> TextFeed<'t>
-        ensures coming { ⟦<TextFeed<'t> as Feed>⟧.coming result ≡ Some text.now }
-        ensures failures { ⟦<TextFeed<'t> as Feed>⟧.failures result ≡ 0 }
-        ensures given { ⟦<TextFeed<'t> as Feed>⟧.given result ≡ 0 }
-    {
-        TextFeed {
-            rest: text,
-            given: 0,
-        }
-    }
-}
-
-impl Feed for TextFeed<'_> {
-    ghost use Rattle.std.specs.Prelude.{Some};
-
-    ghost coming = { λ feed. Some feed.rest.now };
-
-    ghost failures = { λ _. 0 };
-
-    ghost given = { λ feed. feed.given };
-
-    fn read(&mut self, buffer: &mut [u8]) -> Result<usize, FeedFailed> {
-        let count = self.rest.len().min(buffer.len());
-        buffer[..count].copy_from_slice(&self.rest[..count]);
-        self.rest = &self.rest[count..];
-        self.given = self.given.saturating_add(count as u64);
-        Ok(count)
-    }
-
-    fn failures(&self) -> u64 {
-        0
-    }
-}
-
-/// The bytes of a file between two places, as a feed. The bytes given are counted from the begin of
-/// the file. The feed fails only where a read of such a file may fail.
-#[derive(Drop)]
-pub(crate) struct RangeFeed<'f, F: PlacedFile> {
-    file: &'f F,
-    at: u64,
-    past: u64,
-    failures: u64,
-    ghost ordered: { at ≤ past },
-    ghost short: { past ≤ 1073741824 },
-    ghost failed: { 0 < failures → F.may_fail ≡ true },
-}
-
-impl<'f, F: PlacedFile> RangeFeed<'f, F> {
-    /// A feed that has given nothing and has not failed yet.
-    pub(crate) fn new(file: &'f F, at: u64, past: u64) -> RangeFeed<'f, F>
-        requires ordered { at ≤ past }
-        requires short { past ≤ 1073741824 }
-        ensures coming { ⟦<RangeFeed<'f, F> as Feed>⟧.coming result
-            ≡ told_between at past (F.bytes file.now) }
-        ensures failures { ⟦<RangeFeed<'f, F> as Feed>⟧.failures result ≡ 0 }
-        ensures given { ⟦<RangeFeed<'f, F> as Feed>⟧.given result ≡ at }
-    {
-        RangeFeed {
-            file,
-            at,
-            past,
-            failures: 0,
-        }
-    }
-}
-
-impl<F: PlacedFile> Feed for RangeFeed<'_, F> {
-    ghost use Rattle.lb_report.specs.PlacedFiles.{told_between};
-
-    ghost coming = { λ feed. told_between feed.at feed.past (F.bytes feed.file.now) };
-
-    ghost failures = { λ feed. feed.failures };
-
-    ghost given = { λ feed. feed.at };
-
-    fn read(&mut self, buffer: &mut [u8]) -> Result<usize, FeedFailed> {
-        let left = (self.past - self.at).min(buffer.len() as u64) as usize;
-        match self.file.read_at(&mut buffer[..left], self.at) {
-            Ok(count) => {
-                self.at += count as u64;
-                Ok(count)
-            }
-            Err(cause) => {
-                self.failures += 1;
-                Err(cause)
-            }
-        }
-    }
-
-    fn failures(&self) -> u64 {
-        self.failures
-    }
-}
 
 /// The places where up to `count` sections of a file end, each behind a whole trace. The first
 /// section begins at `from`, and the last one ends at `size`, the end of the file.
@@ -309,19 +201,11 @@ fn judge_range<R: Threads + Sync, F: PlacedFile>(
     let mut window = Window::new(rounds.alloc, rounds.window)?;
     let mut feed = RangeFeed::new(file, start, past);
     let judged = rounds.judge_section(rt, &mut feed, &mut window, table)?;
-    if is_last || (window.is_ended() && feed.at == past) {
+    if is_last || (window.is_ended() && feed.at() == past) {
         Ok(judged)
     } else {
         Err(Halt::Quoted)
     }
-}
-
-/// The place where section `i` of a file begins.
-pub(crate) fn start_at(from: u64, ends: &[u64], i: usize) -> u64
-    requires { i ≤ length ends.now }
-    ensures { result ≡ start_of from ends.now i }
-{
-    if i == 0 { from } else { ends[i - 1] }
 }
 
 /// The sections of a file behind its header, each judged by itself.

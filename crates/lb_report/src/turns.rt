@@ -3,11 +3,10 @@
 ghost use Rattle.std.specs.Prelude.{◌≡◌, ◌<◌};
 ghost use Rattle.lb_report.specs.JudgedParts.{IsOutOfMemory};
 
-use crate::feed::Feed;
 use crate::pieces::Cut;
 use crate::rounds::{Halt, Judged, Reading, Rounds, State, joined};
-use crate::window::Window;
 use lb_check::Verdict;
+use lb_feed::{Feed, Window};
 use lb_trace::{ColumnTable, RoundReader};
 use lb_traces::TraceSet;
 use std::alloc::AllocError;
@@ -30,10 +29,10 @@ impl Rounds<'_, '_> {
     ghost use Rattle.lb_trace.specs.Rolls.{IsRoll};
     ghost use Rattle.lb_trace.specs.Tables.{IsColumnTable};
     ghost use Rattle.lb_pool.specs.Correct.{AreVerdicts};
+    ghost use Rattle.lb_feed.specs.Windows.{IsWindow, left};
     ghost use Rattle.lb_report.specs.JudgedParts.{IsReadingOf, IsState};
     ghost use Rattle.lb_report.specs.Pieces.{IsFilling, IsOpenRound};
     ghost use Rattle.lb_report.specs.Turns.{IsTurn};
-    ghost use Rattle.lb_report.specs.Windows.{IsWindow, left};
 
     /// Why a text was not judged to its end, where reading into the round of `state` was cut.
     fn reading_of(&self, state: State, cut: Cut) -> Reading

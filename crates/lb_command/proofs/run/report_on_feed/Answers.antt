@@ -1,4 +1,4 @@
-use Rattle.lb_report.specs.Windows.{Left, left}
+use Rattle.lb_feed.specs.Windows.{Left, left}
 use Rattle.lb_command.proofs.Feeding.{feed_outcome, feed_read}
 use Rattle.lb_command.proofs.run.report_on_feed.Goals as goal
 

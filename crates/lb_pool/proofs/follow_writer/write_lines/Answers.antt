@@ -9,7 +9,8 @@ use Rattle.lb_board.specs.FollowSeats.{right_of}
 use Rattle.lb_output.specs.Follows.{Goes, sent_of}
 use Rattle.lb_output.specs.Reports.{lines, report_of}
 use Rattle.lb_output.specs.Taken.{Taken}
-use Rattle.lb_output.proofs.GoingOut.{goes_length, goes_on, one_more, passes_on, stops_behind}
+use Rattle.lb_feed.proofs.Passing.{passes_on}
+use Rattle.lb_output.proofs.GoingOut.{goes_length, goes_on, one_more, stops_behind}
 use Rattle.lb_output.proofs.SinkBytes.{takes_no_byte}
 use Rattle.lb_pool.proofs.follow_writer.write_lines.Goals as goal
 

@@ -3,9 +3,9 @@ use Rattle.std.proofs.Common.{◌≡◌, Result, Ok, Err, arith, subst, sym}
 use Rattle.std.specs.Result.{IsErrAnd}
 use Rattle.lb_syntax.specs.Tokens.{Text}
 use Rattle.lb_output.specs.declared.text.Report.{Report}
+use Rattle.lb_feed.specs.Windows.{Left, left}
 use Rattle.lb_report.specs.Bench.{program_of}
 use Rattle.lb_report.specs.FeedAnswers.{IsFeedAnswer}
-use Rattle.lb_report.specs.Windows.{Left, left}
 use Rattle.lb_report.specs.declared.feeding.FeedFault.{FeedFault}
 use Rattle.lb_report.specs.declared.feeding.FeedFault.TheVariants as fault
 use Rattle.lb_refusal.specs.declared.options.Options.{Options}

@@ -1,11 +1,11 @@
 -- The program of a source judges, or a part of the texts is refused.
 use Rattle.std.proofs.Common.{refl, subst, sym}
+use Rattle.lb_feed.specs.Windows.{left}
+use Rattle.lb_feed.proofs.WindowReads.{read_none}
 use Rattle.lb_report.specs.FeedJudging.{IsJudgingFault}
-use Rattle.lb_report.specs.Windows.{left}
 use Rattle.lb_report.specs.declared.feeding.FeedFault.{FeedFault}
 use Rattle.lb_report.specs.Bench.{program_of}
 use Rattle.lb_report.proofs.FeedAnswering.{judging_fault, program_judged, source_fault}
-use Rattle.lb_report.proofs.WindowReads.{read_none}
 use Rattle.lb_report.proofs.feeding.judge_feed.Goals as goal
 
 pub returns-in-Err-clause-err : goal.returns-in-Err-clause-err

@@ -1,11 +1,12 @@
 -- The header is read from the first bytes of a file, and the rest in sections.
 use Rattle.std.proofs.Common.{◌≡◌, ◌∙◌, ◌≤◌, ◌-◌, Some, ap, arith, length, subst, sym}
 use Rattle.std.specs.Io.KnownBytes.{Consumes}
+use Rattle.lb_feed.specs.SectionEnds.{AreEnds}
+use Rattle.lb_feed.specs.Windows.{left, text_in}
+use Rattle.lb_feed.proofs.PlacedFiles.{from_begin}
+use Rattle.lb_feed.proofs.WholeFiles.{came_within}
 use Rattle.lb_report.specs.Ranges.{IsFileJudged}
-use Rattle.lb_report.specs.SectionEnds.{AreEnds}
-use Rattle.lb_report.specs.Windows.{left, text_in}
-use Rattle.lb_report.proofs.PlacedFiles.{from_begin}
-use Rattle.lb_report.proofs.RangeFiles.{came_within, file_told}
+use Rattle.lb_report.proofs.RangeFiles.{file_told}
 use Rattle.lb_report.proofs.feeding.judged_file.Goals as goal
 
 pub ends_in_file-requires-clause-within : goal.ends_in_file-requires-clause-within

@@ -3,8 +3,8 @@ use Rattle.std.proofs.Common.{◌++◌, Global, List, Vec, ℕ, subst, sym}
 use Rattle.std.proofs.lemmas.Option.{IfSome_then}
 use Rattle.std.specs.List.{AllZip}
 use Rattle.lb_trace.specs.Chunks.{text_of}
-use Rattle.lb_report.specs.FileChunks.{IsChunkAt}
-use Rattle.lb_report.specs.Ranges.{IsFileText}
+use Rattle.lb_feed.specs.FileChunks.{IsChunkAt}
+use Rattle.lb_feed.specs.Ranges.{IsFileText}
 use Rattle.lb_report.proofs.FileTexts.{all_chunks}
 use Rattle.lb_report.proofs.live.prepare_file.Goals as goal
 

@@ -10,7 +10,7 @@ use Rattle.lb_trace.specs.Plain.{plain_records}
 use Rattle.lb_trace.specs.Spelling.{Record}
 use Rattle.lb_trace.specs.Tables.{IsColumnTable}
 use Rattle.lb_trace.specs.declared.error.TraceError.{TraceError}
-use Rattle.lb_output.proofs.GoingOut.{passes_on}
+use Rattle.lb_feed.proofs.Passing.{passes_on}
 use Rattle.lb_report.specs.JudgedParts.{HasRoll, IsJudgedPart}
 use Rattle.lb_report.specs.Sections.{IsRefusedWithin, IsSection, IsSectionHalted, KeepsRoll}
 use Rattle.lb_report.specs.declared.rounds.Halt.{Halt}

@@ -1,5 +1,5 @@
 use Rattle.std.proofs.Common.{◌≤◌}
-use Rattle.lb_report.proofs.Sectioning.{FollowOn}
+use Rattle.lb_feed.proofs.Sectioning.{FollowOn}
 use Rattle.lb_report.proofs.sections.ends_in_file.Given as goal
 
 abbrev pub invariant-sections : goal.invariant-sections

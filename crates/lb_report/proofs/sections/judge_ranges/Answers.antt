@@ -5,15 +5,16 @@ use Rattle.std.proofs.Common.{subst, take}
 use Rattle.std.proofs.lemmas.Result.{IfErr-weaker, IfOk-weaker}
 use Rattle.std.specs.List.{range_with_len}
 use Rattle.lb_trace.specs.declared.error.TraceError.TheVariants.{Memory}
-use Rattle.lb_output.proofs.GoingOut.{passes_on}
+use Rattle.lb_feed.proofs.Passing.{passes_on}
+use Rattle.lb_feed.specs.SectionEnds.{start_of}
+use Rattle.lb_feed.proofs.RangeEnds.{range_start}
 use Rattle.lb_report.specs.Ranges.{AreRangesJudged, IsRangesHalt}
-use Rattle.lb_report.specs.SectionEnds.{start_of}
 use Rattle.lb_report.specs.Sections.{IsHaltAfter, lines_of}
 use Rattle.lb_report.specs.declared.rounds.Halt.{Halt}
 use Rattle.lb_report.specs.declared.rounds.Halt.TheVariants.{Refused}
 use Rattle.lb_report.proofs.PartReads.{judged_none}
 use Rattle.lb_report.proofs.RangeReads.{halt_told, halt_within, onward_halted, onward_judged}
-use Rattle.lb_report.proofs.RangeReads.{range_start, ranges_judged, ranges_memory, ranges_refused}
+use Rattle.lb_report.proofs.RangeReads.{ranges_judged, ranges_memory, ranges_refused}
 use Rattle.lb_report.proofs.RangeReads.{rolls_of, texts_of, told_long}
 use Rattle.lb_report.proofs.sections.judge_ranges.Goals as goal
 

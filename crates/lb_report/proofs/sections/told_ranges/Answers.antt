@@ -7,8 +7,9 @@ use Rattle.rayon.specs.Lists.{min_len_base}
 use Rattle.rayon.proofs.ListFacts.{AllZip-weaken, IfOk-then}
 use Rattle.rayon.proofs.ToStd.{nat_range-All}
 use Rattle.lb_trace.specs.Tables.{IsColumnTable}
-use Rattle.lb_report.specs.Ranges.{AreRangeEnds, IsRangeTold}
-use Rattle.lb_report.specs.SectionEnds.{start_of}
+use Rattle.lb_feed.specs.Ranges.{AreRangeEnds}
+use Rattle.lb_feed.specs.SectionEnds.{start_of}
+use Rattle.lb_report.specs.Ranges.{IsRangeTold}
 use Rattle.lb_report.specs.declared.rounds.Halt.{Halt}
 use Rattle.lb_report.specs.declared.rounds.Judged.{Judged}
 use Rattle.lb_report.proofs.sections.told_ranges.Goals as goal

@@ -1,8 +1,8 @@
 -- Pieces are read until one has a line, or all that there is.
-use Rattle.lb_output.proofs.GoingOut.{passes_on}
-use Rattle.lb_report.specs.Windows.{IsLoadFault, left}
-use Rattle.lb_report.specs.declared.feed.LoadError.{LoadError}
-use Rattle.lb_report.proofs.WindowReads.{fault_on, taken_on}
+use Rattle.lb_feed.proofs.Passing.{passes_on}
+use Rattle.lb_feed.specs.Windows.{IsLoadFault, left}
+use Rattle.lb_feed.specs.declared.feed.LoadError.{LoadError}
+use Rattle.lb_feed.proofs.WindowReads.{fault_on, taken_on}
 use Rattle.lb_report.proofs.rounds.Rounds.first_piece.Goals as goal
 
 pub pieces-init : goal.pieces-init

@@ -1,6 +1,6 @@
 use Rattle.std.proofs.Common.{◌+◌, ◌-◌, if◌then◌else◌}
-use Rattle.lb_report.specs.declared.feed.TheConstants.{INPUT_LIMIT}
-use Rattle.lb_report.specs.Windows.{HasTaken, IsWindow, left}
+use Rattle.lb_feed.specs.Windows.{HasTaken, IsWindow, left}
+use Rattle.lb_feed.specs.declared.feed.TheConstants.{INPUT_LIMIT}
 use Rattle.lb_report.proofs.rounds.Rounds.first_piece.Given as goal
 
 abbrev pub invariant-pieces : goal.invariant-pieces

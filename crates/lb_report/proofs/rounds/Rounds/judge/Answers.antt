@@ -1,7 +1,7 @@
 -- A text behind its header, or as a whole where its first line has a quote.
 use Rattle.std.proofs.lemmas.Result.{IfErr-weaker, IfOk-weaker}
+use Rattle.lb_feed.specs.Windows.{left}
 use Rattle.lb_report.specs.JudgedParts.{IsTextJudged, IsTextRefused}
-use Rattle.lb_report.specs.Windows.{left}
 use Rattle.lb_report.proofs.QuotedTexts.{head_refused, judged_on, refused_further}
 use Rattle.lb_report.proofs.RestReads.{text_judged, text_refused}
 use Rattle.lb_report.proofs.rounds.Rounds.judge.Goals as goal

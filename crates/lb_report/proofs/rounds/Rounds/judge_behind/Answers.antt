@@ -3,7 +3,7 @@ use Rattle.std.proofs.Common.{ℕ, List, [], ◌∷◌, ◌++◌, ap, ◌∙◌,
 use Rattle.std.proofs.lemmas.Result.{IfErr-weaker, IfOk-weaker}
 use Rattle.lb_trace.specs.Spelling.{Record}
 use Rattle.lb_trace.specs.declared.error.TraceError.TheVariants.{Memory}
-use Rattle.lb_output.proofs.GoingOut.{passes_on}
+use Rattle.lb_feed.proofs.Passing.{passes_on}
 use Rattle.lb_report.specs.JudgedParts.{HasHaltedAt, HasRoll, IsJudgedFrom, IsPartRead}
 use Rattle.lb_report.specs.declared.rounds.Halt.{Halt}
 use Rattle.lb_report.specs.declared.rounds.Halt.TheVariants.{Refused}

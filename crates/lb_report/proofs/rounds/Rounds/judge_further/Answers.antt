@@ -2,8 +2,8 @@
 use Rattle.std.proofs.lemmas.Result.{IfErr-weaker, IfOk-weaker}
 use Rattle.std.proofs.Common.{List}
 use Rattle.lb_trace.specs.Spelling.{Record}
+use Rattle.lb_feed.specs.Windows.{left}
 use Rattle.lb_report.specs.JudgedParts.{IsPartRead, IsRestHalted, IsRestJudged}
-use Rattle.lb_report.specs.Windows.{left}
 use Rattle.lb_report.proofs.RestReads.{rest_halted_on, rest_on}
 use Rattle.lb_report.proofs.rounds.Rounds.judge_further.Goals as goal
 

@@ -1,9 +1,9 @@
 -- One round after the other, until nothing is left or a piece has a quote.
 use Rattle.std.proofs.Common.{ℕ, ◌∙◌, List, ap, arith, inl, inr, length}
 use Rattle.lb_trace.specs.Spelling.{Record}
-use Rattle.lb_output.proofs.GoingOut.{passes_on}
+use Rattle.lb_feed.proofs.Passing.{passes_on}
+use Rattle.lb_feed.specs.Windows.{left}
 use Rattle.lb_report.specs.JudgedParts.{IsPartRead, IsReading, IsReadOn}
-use Rattle.lb_report.specs.Windows.{left}
 use Rattle.lb_report.specs.declared.rounds.Reading.{Reading}
 use Rattle.lb_report.specs.declared.rounds.Reading.TheVariants.{Halted}
 use Rattle.lb_report.proofs.PieceReads.{on_behind, pieces_halted, pieces_judged, pieces_more}

@@ -1,7 +1,7 @@
 use Rattle.std.proofs.Common.{◌≡◌, List}
 use Rattle.lb_trace.specs.Spelling.{Record}
+use Rattle.lb_feed.specs.Windows.{IsWindow, left, turns_left}
 use Rattle.lb_report.specs.JudgedParts.{IsMoreRead, IsPartRead, IsState}
-use Rattle.lb_report.specs.Windows.{IsWindow, left, turns_left}
 use Rattle.lb_report.proofs.rounds.Rounds.judge_pieces.Given as goal
 
 abbrev pub invariant-rounds : goal.invariant-rounds

@@ -2,11 +2,11 @@
 use Rattle.std.proofs.Common.{◌∷◌, List, ap}
 use Rattle.std.proofs.lemmas.Result.{IfErr-weaker, IfOk-weaker}
 use Rattle.lb_trace.specs.Spelling.{Record}
-use Rattle.lb_output.proofs.GoingOut.{passes_on}
+use Rattle.lb_feed.proofs.Passing.{passes_on}
+use Rattle.lb_feed.specs.Windows.{left}
 use Rattle.lb_report.specs.JudgedParts.{HasRoll, IsPartRead, IsRestHalted, IsRestJudged}
 use Rattle.lb_report.specs.declared.rounds.Halt.{Halt}
 use Rattle.lb_report.specs.declared.rounds.Halt.TheVariants.{Load}
-use Rattle.lb_report.specs.Windows.{left}
 use Rattle.lb_report.proofs.QuotedReads.{rest_judged, rest_stopped}
 use Rattle.lb_report.proofs.rounds.Rounds.judge_quoted.Goals as goal
 

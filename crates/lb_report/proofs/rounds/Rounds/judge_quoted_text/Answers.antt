@@ -1,9 +1,9 @@
 -- All that is left stands in the window.
 use Rattle.std.proofs.Common.{subst, List, ℕ}
 use Rattle.std.proofs.lemmas.Result.{IfErr-weaker, IfOk-weaker}
+use Rattle.lb_feed.specs.Windows.{left}
 use Rattle.lb_report.specs.JudgedParts.{IsTextJudged, IsTextRefused}
 use Rattle.lb_report.specs.QuotedTexts.{IsWholeJudged, IsWholeRefused}
-use Rattle.lb_report.specs.Windows.{left}
 use Rattle.lb_report.proofs.QuotedTexts.{taken_judged, taken_refused}
 use Rattle.lb_report.proofs.rounds.Rounds.judge_quoted_text.Goals as goal
 

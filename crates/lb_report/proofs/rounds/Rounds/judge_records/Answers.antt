@@ -4,7 +4,7 @@ use Rattle.std.proofs.lemmas.Result.{IfErr-weaker, IfOk-weaker, err_from_is_err_
 use Rattle.csv.specs.Records.{fields_of}
 use Rattle.lb_trace.specs.Readers.{Reaches}
 use Rattle.lb_trace.specs.Spelling.{Record}
-use Rattle.lb_output.proofs.GoingOut.{passes_on}
+use Rattle.lb_feed.proofs.Passing.{passes_on}
 use Rattle.lb_report.specs.JudgedParts.{HasHaltedAt, HasRoll, IsJudgedFrom, IsPartRead}
 use Rattle.lb_report.specs.declared.rounds.Halt.TheVariants.{Refused}
 use Rattle.lb_report.proofs.QuotedReads.{on_end, on_halt, on_more, on_none, on_refused}

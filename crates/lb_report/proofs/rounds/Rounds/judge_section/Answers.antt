@@ -1,7 +1,7 @@
 -- All pieces of a section; where they are not judged it is set aside.
 use Rattle.std.proofs.Common.{[], refl}
 use Rattle.lb_trace.specs.declared.error.TraceError.TheVariants.{Memory}
-use Rattle.lb_output.proofs.GoingOut.{passes_on}
+use Rattle.lb_feed.proofs.Passing.{passes_on}
 use Rattle.lb_report.specs.Sections.{IsSetAside}
 use Rattle.lb_report.specs.declared.rounds.Halt.TheVariants.{Refused}
 use Rattle.lb_report.proofs.rounds.Rounds.judge_section.Goals as goal

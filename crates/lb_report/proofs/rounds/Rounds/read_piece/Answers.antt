@@ -2,7 +2,7 @@
 use Rattle.std.proofs.Common.{◌≡◌, ◌∙◌, false, rules, take}
 use Rattle.std.proofs.lemmas.Result.{err_from_is_err_and}
 use Rattle.lb_trace.specs.Plain.{has_quote}
-use Rattle.lb_report.specs.Windows.{text_in}
+use Rattle.lb_feed.specs.Windows.{text_in}
 use Rattle.lb_report.proofs.PieceReads.{cut_sound, piece_added, piece_halted, round_none}
 use Rattle.lb_report.proofs.PieceTexts.{ended_some, piece_goes}
 use Rattle.lb_report.proofs.rounds.Rounds.read_piece.Goals as goal

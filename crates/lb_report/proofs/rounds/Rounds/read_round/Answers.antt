@@ -1,6 +1,6 @@
 -- One piece after the other is read into a round.
 use Rattle.std.proofs.lemmas.Result.{err_from_is_err_and}
-use Rattle.lb_report.specs.Windows.{left}
+use Rattle.lb_feed.specs.Windows.{left}
 use Rattle.lb_report.proofs.PieceReads.{cut_on, round_front, round_on}
 use Rattle.lb_report.proofs.PieceTexts.{goes_on, pieces_text}
 use Rattle.lb_report.proofs.rounds.Rounds.read_round.Goals as goal

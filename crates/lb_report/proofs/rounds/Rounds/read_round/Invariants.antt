@@ -1,6 +1,6 @@
 use Rattle.std.proofs.Common.{◌≡◌}
+use Rattle.lb_feed.specs.Windows.{GoesOn, IsWindow, left, turns_left}
 use Rattle.lb_report.specs.Pieces.{IsOpenRound, IsRoundRead}
-use Rattle.lb_report.specs.Windows.{GoesOn, IsWindow, left, turns_left}
 use Rattle.lb_report.proofs.rounds.Rounds.read_round.Given as goal
 
 abbrev pub invariant-pieces : goal.invariant-pieces

@@ -1,6 +1,6 @@
 -- The traces of a round are named and judged, or refused behind the others.
 use Rattle.std.proofs.Common.{List, refl}
-use Rattle.lb_output.proofs.GoingOut.{passes_on}
+use Rattle.lb_feed.proofs.Passing.{passes_on}
 use Rattle.lb_trace.specs.declared.error.TraceError.TheVariants.{Memory}
 use Rattle.lb_trace.specs.declared.table.ColumnTable.{ColumnTable}
 use Rattle.lb_trace.specs.Spelling.{Record}

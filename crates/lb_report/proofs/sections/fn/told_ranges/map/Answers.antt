@@ -1,8 +1,8 @@
 -- A section is judged by itself.
 use Rattle.std.proofs.Common.{◌≡◌, ◌≤◌, ◌+◌, ◌==◌, arith, get_or, length, subst}
+use Rattle.lb_feed.specs.SectionEnds.{start_of}
+use Rattle.lb_feed.proofs.RangeEnds.{range_past}
 use Rattle.lb_report.specs.Ranges.{IsRangeTold}
-use Rattle.lb_report.specs.SectionEnds.{start_of}
-use Rattle.lb_report.proofs.RangeReads.{range_past}
 use Rattle.lb_report.proofs.sections.fn.told_ranges.map.Goals as goal
 
 pub judge_range-requires-clause-ordered : goal.judge_range-requires-clause-ordered

@@ -1,0 +1,9 @@
+pub mod Counts
+pub mod Lines
+pub mod Cases
+pub mod Feeds
+pub mod Windows
+pub mod PlacedFiles
+pub mod SectionEnds
+pub mod Ranges
+pub mod FileChunks
