@@ -1,31 +1,31 @@
 -- A call with one result stands on the clocks that the code finds, and on no others.
 use Rattle.lb_check.proofs.Words
-use Words.{◌≡◌, ℕ, zero, suc, ◌+◌, ◌<◌, ◌≤◌, ◌⊎◌, inl, inr, Bool, true, false, List, [], ◌∷◌, ◌++◌}
-use Words.{take, drop, length, map, Option, Some, None, refl, ap, sym, ◌∙◌, subst, arith, ◌&&◌}
-use Words.{option_map, slice_get, if◌then◌else◌, append-nil, slice_get_within, and-true, and_from}
-use Words.{false_from_ne_true, ◌>>=◌, either_or, Expr, Declaration, and_first, and_second}
-use Words.{both_ways, mapped_from, Program, Site, node_named, node_of, texts_of, expr_of, exprs_of}
-use Words.{ResolvedNode, Sampling, Term, VariableId, is_clock, is_call_clocked, clock_of}
-use Words.{each_clock, given_inputs, given_outputs, outer, above, own_depth, declared_clock, depth}
-use Words.{base_clock, base_from, base_from_arguments, first_result_clock, called_clock}
-use Words.{result_clocks, argument_clocks, clock_in, IsClockSet, is_clocked_on, Context}
-use Words.{infer_clock, operands_of, given_at, clock_sets, are_given, input_clocks, output_clocks}
-use Words.{base_of, expected, all_fit, clock_set_on, first_result, call_clock_set, ClockSet}
-use Words.{NoClock, AnyClock, OneClock, Declared}
+use Words.{AnyClock, Bool, ClockSet, Context, Declaration, Declared, Expr, IsClockSet, List}
+use Words.{NoClock, None, OneClock, Option, Program, ResolvedNode, Sampling, Site, Some, Term}
+use Words.{VariableId, [], above, all_fit, and-true, and_first, and_from, and_second, ap}
+use Words.{append-nil, are_given, argument_clocks, arith, base_clock, base_from}
+use Words.{base_from_arguments, base_of, both_ways, call_clock_set, called_clock, clock_in}
+use Words.{clock_of, clock_set_on, clock_sets, declared_clock, depth, drop, each_clock, either_or}
+use Words.{expected, expr_of, exprs_of, false, false_from_ne_true, first_result, first_result_clock}
+use Words.{given_at, given_inputs, given_outputs, if◌then◌else◌, infer_clock, inl, input_clocks}
+use Words.{inr, is_call_clocked, is_clock, is_clocked_on, length, map, mapped_from, node_named}
+use Words.{node_of, operands_of, option_map, outer, output_clocks, own_depth, refl, result_clocks}
+use Words.{slice_get, slice_get_within, subst, suc, sym, take, texts_of, true, zero, ℕ, ◌&&◌, ◌++◌}
+use Words.{◌+◌, ◌<◌, ◌>>=◌, ◌∙◌, ◌∷◌, ◌≡◌, ◌≤◌, ◌⊎◌}
+use Rattle.lb_check.proofs.clocking.CallOperands.{KnownOperands, are_given_is, clock_from}
+use Rattle.lb_check.proofs.clocking.CallOperands.{clock_there, code_known, each_stood, input_waits}
+use Rattle.lb_check.proofs.clocking.CallOperands.{inputs_of, inputs_seen, not_itself}
+use Rattle.lb_check.proofs.clocking.CallOperands.{operand_stands, operand_within, output_waits}
+use Rattle.lb_check.proofs.clocking.CallOperands.{same_fits, stands_at, stood_clock, waited_given}
+use Rattle.lb_check.proofs.clocking.{ClockTests.clock_same, GivenNames.{clock_set_at, input_held}}
+use Rattle.lb_check.proofs.clocking.GivenNames.{output_at, term_at, variable_held}
+use Rattle.lb_check.proofs.clocking.OuterClocks.{AreGiven, AreOfNode, IsGiven, above_outer}
+use Rattle.lb_check.proofs.clocking.OuterClocks.{base_found, base_is, base_within, clock_equal}
+use Rattle.lb_check.proofs.clocking.OuterClocks.{expects, fit_none, fit_some, fits_on, place_name}
+use Rattle.lb_check.proofs.clocking.OuterClocks.{place_split, seen, stood, variable_at}
+use Rattle.lb_check.proofs.{clocking.OwnClocks.clock_of_free, lists.ListPairs.each_pair}
+use Rattle.lb_check.proofs.lists.ListPairs.{get_mapped, get_taken, pair_at}
 use Rattle.lb_check.specs.declared.own_clock.Clock.{Clock}
-use Rattle.lb_check.proofs.clocking.CallOperands.{KnownOperands, are_given_is, operand_within}
-use Rattle.lb_check.proofs.clocking.CallOperands.{operand_stands, waited_given, input_waits}
-use Rattle.lb_check.proofs.clocking.CallOperands.{output_waits, not_itself, each_stood, stands_at}
-use Rattle.lb_check.proofs.clocking.CallOperands.{stood_clock, clock_there, clock_from, inputs_seen}
-use Rattle.lb_check.proofs.clocking.CallOperands.{inputs_of, code_known, same_fits}
-use Rattle.lb_check.proofs.clocking.{ClockTests.clock_same, GivenNames.{term_at, clock_set_at}}
-use Rattle.lb_check.proofs.clocking.GivenNames.{input_held, output_at, variable_held}
-use Rattle.lb_check.proofs.clocking.OuterClocks.{IsGiven, AreOfNode, base_found, fits_on, fit_some}
-use Rattle.lb_check.proofs.clocking.OuterClocks.{fit_none, base_within, base_is, expects, stood}
-use Rattle.lb_check.proofs.clocking.OuterClocks.{clock_equal, above_outer, place_name, variable_at}
-use Rattle.lb_check.proofs.clocking.OuterClocks.{seen, expected_on, AreGiven, place_split}
-use Rattle.lb_check.proofs.{clocking.OwnClocks.clock_of_free, lists.ListPairs.get_mapped}
-use Rattle.lb_check.proofs.lists.ListPairs.{get_taken, each_pair, pair_at}
 use Rattle.lb_syntax.specs.Tree as text
 use Rattle.lb_check.specs.Clocks as tree
 
@@ -197,13 +197,6 @@ module _ {P : Program} {here callee : ResolvedNode} {ctx : Context} {es : List T
       row : AreOfNode here Y (input_clocks callee) ss
       row = inputs_of ops Y (λ i lt. refl) (callee.inputs + 1) few waits
 
-      -- the clock that the code expects of the result is the one that the caller sees
-      on_result : (b : tree.Clock) → fits b ≡ true →
-          expected_on here Y b result.0.clock ≡ seen callee given b callee.inputs
-      on_result b ok =
-          code_known ops Y (λ i lt. refl) (callee.inputs + 1) few waits b ok
-          (variable_at callee.inputs) result.0 (omega arith) result.1
-
       result_given : IsGiven here Y result.0.clock
       result_given s is =
           let z = waits callee.inputs result.0 s (omega arith) result.1 is in (
@@ -339,7 +332,8 @@ module _ {P : Program} {here callee : ResolvedNode} {ctx : Context} {es : List T
           let b = clock_in here k in
           let r = expects here Y k (base_within ops.own row k e) result.0.clock result_given in
           let clock : clock_in here r.0 ≡ seen callee given b callee.inputs = r.2
-          ∙ on_result b ok in
+          ∙ code_known ops Y (λ i lt. refl) (callee.inputs + 1) few waits b ok
+          (variable_at callee.inputs) result.0 (omega arith) result.1 in
           let one = λ (c : tree.Clock) (ok : fits c ≡ true). base_is ops.own row k c e ok in
           let determines : clock_of P (node_of here) call_of ≡ Some (clock_in here r.0) =
           call_clock ∙ ap (option_map (λ c. seen callee given c callee.inputs))
@@ -434,8 +428,7 @@ module _ {P : Program} {here callee : ResolvedNode} {ctx : Context} {es : List T
 
       up_is : (o : Option Clock) → base_of (input_clocks callee) ss ≡ o →
           up (clock_in here k) ≡ clock_in here (either_or o k)
-      up_is (Some l) e =
-          base_is ops.own (row runs_given) l (up (clock_in here k)) e runs_fit
+      up_is (Some l) e = base_is ops.own (row runs_given) l (up (clock_in here k)) e runs_fit
       up_is None e =
           let none = λ (b : tree.Clock). fit_none ops.own (row runs_given) e b in
           let every = λ (b : tree.Clock). sym (none b) ∙ none (up (clock_in here k)) ∙ runs_fit in
@@ -448,8 +441,7 @@ module _ {P : Program} {here callee : ResolvedNode} {ctx : Context} {es : List T
 
       pub runs_base : base_clock (clock_in here k) (node_of callee)
           ≡ clock_in here (either_or (base_of (input_clocks callee) ss) k)
-      runs_base =
-          base_up (clock_in here k) ∙ up_is (base_of (input_clocks callee) ss) refl
+      runs_base = base_up (clock_in here k) ∙ up_is (base_of (input_clocks callee) ss) refl
 
       pub runs_fitting : fits_on here Y
           (clock_in here (either_or (base_of (input_clocks callee) ss) k)) (input_clocks callee) ss

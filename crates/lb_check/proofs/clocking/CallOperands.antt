@@ -1,29 +1,28 @@
 -- The operands of a call and the clocks on which they are placed.
 use Rattle.lb_check.proofs.Words
-use Words.{◌≡◌, ℕ, zero, suc, ◌+◌, ◌<◌, ◌≤◌, inl, inr, true, List, [], ◌∷◌, take, drop, length, map}
-use Words.{Option, Some, None, refl, ap, sym, ◌∙◌, subst, arith, ◌&&◌, ◌||◌, not, is_some}
-use Words.{slice_get, nat_lt, list_all, nat_tests, list_all-append, either_or, Expr, Declaration}
-use Words.{and_first, and_second, both_ways, all_at, mapped_from, Program, node_of, texts_of}
-use Words.{counts_of, expr_of, exprs_of, is_within, is_unhidden, is_variable, ResolvedNode}
-use Words.{Sampling, Term, VariableId, is_variable_at, waits_below, is_occurrence_clocked}
-use Words.{are_given_variables, clock_of, each_clock, given_inputs, outer, declared_clock, depth}
-use Words.{call_count, occurrences, occurrences_each, HasClocks, clock_in, IsClockSet, AreClockSets}
-use Words.{is_clocked_on, Context, declared_in, infer_clock, operands_of, given_at, clock_sets}
-use Words.{is_given, are_given, input_clocks, ClockSet, NoClock, AnyClock, OneClock, ap₂}
-use Words.{option_map, length-map, length-take-le, slice_get_within, expected, Declared}
-use Rattle.lb_check.specs.{CallClocks.waits_for_given, PlacedClocks.argument_clocks}
-use Rattle.lb_check.specs.declared.own_clock.Clock.{Clock, TheVariants.On}
+use Words.{AnyClock, AreClockSets, ClockSet, Context, Declaration, Declared, Expr, HasClocks}
+use Words.{IsClockSet, List, NoClock, None, OneClock, Option, Program, ResolvedNode, Sampling, Some}
+use Words.{Term, VariableId, [], all_at, and_first, and_second, ap, ap₂, are_given}
+use Words.{are_given_variables, arith, both_ways, call_count, clock_in, clock_of, clock_sets}
+use Words.{counts_of, declared_clock, declared_in, depth, drop, each_clock, either_or, expected}
+use Words.{expr_of, exprs_of, given_at, given_inputs, infer_clock, inl, input_clocks, inr}
+use Words.{is_clocked_on, is_given, is_occurrence_clocked, is_some, is_unhidden, is_variable}
+use Words.{is_variable_at, is_within, length, length-map, length-take-le, list_all, list_all-append}
+use Words.{map, mapped_from, nat_lt, nat_tests, node_of, not, occurrences, occurrences_each}
+use Words.{operands_of, option_map, outer, refl, slice_get, slice_get_within, subst, suc, sym, take}
+use Words.{texts_of, true, waits_below, zero, ℕ, ◌&&◌, ◌+◌, ◌<◌, ◌||◌, ◌∙◌, ◌∷◌, ◌≡◌, ◌≤◌}
 use Rattle.lb_check.proofs.clocking.ClockDepths.{as_many_names, inputs_clocked, outputs_clocked}
-use Rattle.lb_check.proofs.clocking.{ClockTests.clock_same, GivenNames.{all_given, operand_at}}
-use Rattle.lb_check.proofs.clocking.GivenNames.{clock_set_at, term_at, variable_stands}
-use Rattle.lb_check.proofs.clocking.GivenNames.{variable_within, input_held, input_at}
-use Rattle.lb_check.proofs.clocking.{GivenNames.{variable_held, given_in}, OuterClocks.IsGiven}
-use Rattle.lb_check.proofs.clocking.OuterClocks.{AreOfNode, IsWithin, fits_on, stood, place_name}
-use Rattle.lb_check.proofs.clocking.OuterClocks.{variable_at}
-use Rattle.lb_check.proofs.clocking.OuterClocks.{seen, expected_on, AreGiven, StandFor, HaveNames}
-use Rattle.lb_check.proofs.clocking.{OuterClocks.outer_all, OwnClocks.clock_of_waiting}
-use Rattle.lb_check.proofs.lists.ListPairs.{taken, get_taken, get_mapped, each_pair, pair_at}
-use Rattle.lb_check.proofs.lists.ListPairs.{pairs_from, get_dropped}
+use Rattle.lb_check.proofs.clocking.{ClockTests.clock_same, GivenNames.{all_given, clock_set_at}}
+use Rattle.lb_check.proofs.clocking.GivenNames.{given_in, input_at, input_held, operand_at, term_at}
+use Rattle.lb_check.proofs.clocking.GivenNames.{variable_held, variable_stands, variable_within}
+use Rattle.lb_check.proofs.clocking.OuterClocks.{AreGiven, AreOfNode, HaveNames, IsGiven, IsWithin}
+use Rattle.lb_check.proofs.clocking.OuterClocks.{StandFor, expected_on, fits_on, outer_all}
+use Rattle.lb_check.proofs.clocking.OuterClocks.{place_name, seen, stood, variable_at}
+use Rattle.lb_check.proofs.{clocking.OwnClocks.clock_of_waiting, lists.ListPairs.each_pair}
+use Rattle.lb_check.proofs.lists.ListPairs.{get_dropped, get_mapped, get_taken, pair_at, pairs_from}
+use Rattle.lb_check.{proofs.lists.ListPairs.taken, specs.CallClocks.waits_for_given}
+use Rattle.lb_check.specs.{PlacedClocks.argument_clocks, declared.own_clock.Clock.Clock}
+use Rattle.lb_check.specs.declared.own_clock.Clock.TheVariants.{On}
 use Rattle.lb_check.specs.CallClocks as code
 use Rattle.lb_check.specs.Clocks as tree
 
@@ -270,8 +269,7 @@ module _ {P : Program} {here callee : ResolvedNode} {ctx : Context} {es : List T
           let d = input_held callee ops.called i lt in
           let here_seen = get_mapped _ _ i d.0 d.1 in
           let k = outer b inputs_given (declared_clock (node_of callee) d.0.name) in
-          let stands : stood here k s ≡ true =
-          pair_at _ _ _ i k s fits here_seen e in
+          let stands : stood here k s ≡ true = pair_at _ _ _ i k s fits here_seen e in
           subst (λ n. stood here (outer b inputs_given (declared_clock (node_of callee) n))
           s ≡ true) (input_at callee ops.called i d.0 d.1).0 stands
 

@@ -1,20 +1,20 @@
 -- The depths of the declared clocks of a node.
 use Rattle.lb_check.proofs.Words
-use Words.{◌≡◌, ap₂, ℕ, zero, suc, ◌+◌, ◌<◌, ◌≤◌, ◌-◌, ◌⊎◌, inl, inr, List, [], ◌∷◌, ◌++◌, take}
-use Words.{drop, length, get_or, Option, Some, None, refl, ap, sym, ◌∙◌, subst, arith, option_map}
-use Words.{slice_get, set, take-append_seam, slice_get-get_or, ◌>>=◌, Variable, Sampling, awaited}
-use Words.{LeadsTo, HasDepth, AreDepths, IsKnown, min, Bool, true, false, map, ◌&&◌, is_some}
-use Words.{nat_lt, list_all, bytes_eq, nat_tests, bytes_eq-Decides, slice_get_within, length-take}
-use Words.{length-drop, length-map, length-append, append_assoc, drop_more, and-true, and-false}
-use Words.{not-true, zip2, either_or, Name, Static, Declaration, Node, all_from, item_at, and_first}
-use Words.{and_second, named, are_distinct, among, variable_names, variables, Counts}
-use Words.{declaration_of, sampling_of, name_at, is_declared_within, are_statics, IsResolved}
-use Words.{counts_of, node_of, statics_of, ResolvedNode, Clock, On, clock_within, sampled, depth}
-use Words.{variable_clock, IsCircle, waits_below, is_clocked_by, are_declared_clocks}
-use Rattle.std.proofs.{Common.below_more, Math.ListN.length-set}
-use Rattle.{lb_syntax.proofs.ListPlaces.set_here, lb_check.specs.ClockDepths.depth_within}
-use Rattle.lb_check.{specs.ClockDepths.AreAwaited, proofs.lists.ListPairs.one_fails}
-use Rattle.lb_check.proofs.lists.Members.{not_among, unequal}
+use Words.{AreDepths, Bool, Clock, Counts, Declaration, HasDepth, IsCircle, IsKnown, IsResolved}
+use Words.{LeadsTo, List, Name, Node, None, On, Option, ResolvedNode, Sampling, Some, Static}
+use Words.{Variable, [], all_from, among, and-false, and-true, and_first, and_second, ap}
+use Words.{append_assoc, ap₂, are_declared_clocks, are_distinct, are_statics, arith, awaited}
+use Words.{bytes_eq, bytes_eq-Decides, clock_within, counts_of, declaration_of, depth, drop}
+use Words.{drop_more, either_or, false, get_or, inl, inr, is_clocked_by, is_declared_within}
+use Words.{is_some, item_at, length, length-append, length-drop, length-map, length-take, list_all}
+use Words.{map, min, name_at, named, nat_lt, nat_tests, node_of, not-true, option_map, refl}
+use Words.{sampled, sampling_of, set, slice_get, slice_get-get_or, slice_get_within, statics_of}
+use Words.{subst, suc, sym, take, take-append_seam, true, variable_clock, variable_names, variables}
+use Words.{waits_below, zero, zip2, ℕ, ◌&&◌, ◌++◌, ◌+◌, ◌-◌, ◌<◌, ◌>>=◌, ◌∙◌, ◌∷◌, ◌≡◌, ◌≤◌, ◌⊎◌}
+use Rattle.lb_check.proofs.lists.{ListPairs.one_fails, Members.{not_among, unequal}}
+use Rattle.lb_check.specs.ClockDepths.{AreAwaited, depth_within}
+use Rattle.{lb_syntax.proofs.ListPlaces.set_here, std.proofs.Common.below_more}
+use Rattle.std.proofs.Math.ListN.{length-set}
 
 -- The depth of a declared clock is the number of steps from its variable to one that waits for
 -- none.
@@ -124,10 +124,6 @@ set_keeps (x ∷ xs) (suc i) zero a b e = inr e
 set_keeps (x ∷ xs) (suc i) (suc j) a b e =
     elim (set_keeps xs i j a b e) [ inl s ↦ inl (ap suc s.0, s.1) | inr s ↦ inr s ]
 
-pub known_here : (depths : List (Option ℕ)) (x d : ℕ) → x < length depths →
-    IsKnown (set depths x (Some d)) x
-known_here depths x d lt = (d, set_here depths x (Some d) lt)
-
 pub still_known : (depths : List (Option ℕ)) (x d y : ℕ) → IsKnown depths y →
     IsKnown (set depths x (Some d)) y
 still_known depths x d y k =
@@ -137,7 +133,7 @@ pub first_known : (depths : List (Option ℕ)) (x d first : ℕ) (A : Type 0) �
     (A × (x ≡ first)) ⊎ IsKnown depths first
     → IsKnown (set depths x (Some d)) first
 first_known depths x d first A lt (inl e) =
-    subst (IsKnown (set depths x (Some d))) e.1 (known_here depths x d lt)
+    subst (IsKnown (set depths x (Some d))) e.1 (d, set_here depths x (Some d) lt)
 first_known depths x d first A lt (inr k) = still_known depths x d first k
 
 known_some : (depths : List (Option ℕ)) (x : ℕ) (o : Option ℕ) → slice_get depths x ≡ Some o
@@ -153,9 +149,6 @@ first_noted depths x first o A lt e (inl p) =
     subst (IsKnown depths) p.1
     (known_some depths x (get_or depths x o) (slice_get-get_or depths x o lt) e)
 first_noted depths x first o A lt e (inr k) = k
-
-pub less_small : (depth above most : ℕ) → depth ≤ most → depth - above ≤ most
-less_small depth above most small = omega arith
 
 pub more_depths : (vs : List Variable) (depths : List (Option ℕ)) (x d : ℕ) → AreDepths vs depths →
     HasDepth vs d x → d ≤ length vs
@@ -621,5 +614,4 @@ module _ (nodes : List Name) (r : ResolvedNode) (e : IsResolved nodes r)
       → list_all (waits_below (r.inputs + r.outputs))
       (take r.outputs (drop r.inputs r.variables.items)) ≡ true
       → IsCircle r.variables.items None → are_declared_clocks (node_of r) ≡ true
-  clocks_accepted inputs outputs found =
-      clocks_kept ∙ rw (inputs, outputs) (each_ends found)
+  clocks_accepted inputs outputs found = clocks_kept ∙ rw (inputs, outputs) (each_ends found)

@@ -1,13 +1,13 @@
 -- Clocks that the code compares, and rows of operands from a place on.
 use Rattle.lb_check.proofs.Words
-use Words.{◌≡◌, ◌≢◌, ℕ, ◌+◌, ◌<◌, ◌≤◌, Bool, true, false, List, [], ◌∷◌, length, drop, get_or}
-use Words.{Option, Some, None, refl, ap, sym, ◌∙◌, arith, ◌&&◌, nat_eq, slice_get, if◌then◌else◌}
-use Words.{nat_tests, drop_all, drop_more, slice_get_past, beq, or_else, and_first, and_second}
-use Words.{node_of, ResolvedNode, Sampling, Variable, VariableId, HasClocks, clock_in, name_in}
-use Words.{same, clocks_of, clock_with, declared_in, is_same, both, together, clock_sets, base_of}
-use Words.{all_fit, accepts_clock, expected, Base, Operand, ClockSet, NoClock, AnyClock, OneClock}
+use Words.{AnyClock, Base, Bool, ClockSet, HasClocks, List, NoClock, None, OneClock, Operand}
+use Words.{Option, ResolvedNode, Sampling, Some, Variable, VariableId, [], accepts_clock, all_fit}
+use Words.{and_first, and_second, ap, arith, base_of, beq, both, clock_in, clock_sets, clock_with}
+use Words.{clocks_of, drop, drop_all, drop_more, expected, false, get_or, if◌then◌else◌, is_same}
+use Words.{length, name_in, nat_eq, nat_tests, node_of, or_else, refl, same, slice_get, sym}
+use Words.{together, true, ℕ, ◌&&◌, ◌+◌, ◌<◌, ◌∙◌, ◌∷◌, ◌≡◌, ◌≢◌, ◌≤◌}
+use Rattle.lb_check.proofs.clocking.OwnClocks.{beq_same, clock_of_free, clock_of_waiting}
 use Rattle.lb_check.specs.declared.own_clock.Clock.{Clock, TheVariants.On}
-use Rattle.lb_check.proofs.clocking.OwnClocks.{clock_of_free, clock_of_waiting, beq_same}
 use Rattle.lb_check.specs.Clocks as tree
 
 -- ## Clocks
@@ -39,10 +39,6 @@ declared_there r h x v at lt = by v.clock refl
         clock_in r (clock_with o) ≡ tree.declared_clock (node_of r) (name_in r x)
     by None e = clock_of_free r h x v at lt e
     by (Some s) e = clock_of_waiting r h x v s at lt e
-
-pub declared_nowhere : (r : ResolvedNode) (x : VariableId) → length r.variables.items ≤ x.0 →
-    Base ≡ declared_in r x
-declared_nowhere r x le = rw (slice_get_past r.variables.items x.0 le) refl
 
 pub same_is : (a b : Bool) → same a b ≡ true → a ≡ b
 same_is true true e = refl

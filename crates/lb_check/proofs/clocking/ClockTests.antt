@@ -1,15 +1,15 @@
 -- Tests of whether two clocks of a node are the same, and the declared clock of a variable.
 use Rattle.lb_check.proofs.Words
-use Words.{◌==◌, ◌≡◌, ℕ, zero, suc, ◌<◌, Bool, true, false, List, [], ◌∷◌, length, Option, Some}
-use Words.{None, refl, ap, sym, ◌∙◌, subst, arith, ◌&&◌, is_some, slice_get, nat_eq, bytes_eq}
-use Words.{nat_tests, bytes_eq-Decides, ◌>>=◌, Name, all_at, item_at, and_first, and_second}
-use Words.{both_ways, among, variable_names, is_variable, is_declared_within, is_sampling_within}
-use Words.{are_statics, node_of, counts_of, ResolvedNode, Sampling, Variable, VariableId, is_clock}
-use Words.{same, HasClocks, name_in, clock_in, is_clock_within, clock_with, declared_in, is_same}
-use Words.{Clock, On, clock_or, variable_clock, declared_clock, Compared}
-use Rattle.{std.proofs.Math.Bool.{and_self, or-true}, lb_check.specs.Clocks.Base}
+use Words.{Bool, Clock, Compared, HasClocks, List, Name, None, On, Option, ResolvedNode, Sampling}
+use Words.{Some, Variable, VariableId, [], all_at, among, and_first, and_second, ap, are_statics}
+use Words.{arith, both_ways, bytes_eq, bytes_eq-Decides, clock_in, clock_or, clock_with, counts_of}
+use Words.{declared_clock, declared_in, false, is_clock, is_clock_within, is_declared_within}
+use Words.{is_same, is_sampling_within, is_some, is_variable, item_at, length, name_in, nat_eq}
+use Words.{nat_tests, node_of, refl, same, slice_get, subst, suc, sym, true, variable_clock}
+use Words.{variable_names, zero, ℕ, ◌&&◌, ◌<◌, ◌==◌, ◌>>=◌, ◌∙◌, ◌∷◌, ◌≡◌}
 use Rattle.lb_check.proofs.clocking.ClockSetRows.{declared_there, same_is as same_one}
 use Rattle.lb_check.proofs.clocking.OwnClocks.{clock_itself, has_clock, name_of_place, same_clock}
+use Rattle.{lb_check.specs.Clocks.Base, std.proofs.Math.Bool.{and_self, or-true}}
 use Rattle.lb_check.specs.declared.own_clock.Clock.TheVariants as code
 
 -- ## Clocks of a text
@@ -75,12 +75,8 @@ module _ (r : ResolvedNode) (h : HasClocks r) where
     variable : (v : Variable) × (slice_get r.variables.items x.0 ≡ Some v)
     variable = item_at r.variables.items x.0 below
 
-    name_there : slice_get (variable_names (node_of r)) x.0 ≡ Some (name_in r x)
+    pub name_there : slice_get (variable_names (node_of r)) x.0 ≡ Some (name_in r x)
     name_there = let v = variable in (name_of_place r h x v.0 v.1 below).0
-
-    -- the name of a variable is among the names of the node
-    pub name_among : among (name_in r x) (variable_names (node_of r)) ≡ true
-    name_among = among_at (variable_names (node_of r)) x.0 (name_in r x) name_there
 
     -- the declared clock of a variable, as the code reads it, is that of the text
     pub declared_is : clock_in r (declared_in r x) ≡ declared_clock (node_of r) (name_in r x)
@@ -107,5 +103,4 @@ module _ (r : ResolvedNode) (h : HasClocks r) where
 
     pub has_declared : variable_clock (node_of r) (name_in r x) ≡ Some
         (declared_clock (node_of r) (name_in r x))
-    has_declared =
-        some_is (variable_clock (node_of r) (name_in r x)) (has_clock r h x name_there)
+    has_declared = some_is (variable_clock (node_of r) (name_in r x)) (has_clock r h x name_there)

@@ -13,8 +13,7 @@ use Rattle.lb_check.proofs.programs.TypedOccurrences.{found_name}
 
 module _ (vars : List Declaration) where
   -- a clock that is found within `m` steps is less than `m` deep
-  within_deep :
-      (m : ℕ) (d : Declaration) (k : Clock) → clock_within m vars d ≡ Some k → depth k < m
+  within_deep : (m : ℕ) (d : Declaration) (k : Clock) → clock_within m vars d ≡ Some k → depth k < m
   within_deep zero d k e = absurd cc
   within_deep (suc m) d k e =
       elim (clock_found m vars d k e) [
@@ -107,8 +106,7 @@ module _ (n : Node) where
   pub above_own : (m : ℕ) (k : Clock) → IsOwn k → IsOwn (above m k)
   above_own zero k h = h
   above_own (suc m) Base h = tt
-  above_own (suc m) (On k x sign) h =
-      above_own m k (subst IsOwn (sym h.0) (declared_own x))
+  above_own (suc m) (On k x sign) h = above_own m k (subst IsOwn (sym h.0) (declared_own x))
 
   pub base_own : (k : Clock) (callee : Node) → IsOwn k → IsOwn (base_clock k callee)
   base_own k callee h = by callee.outputs

@@ -1,34 +1,33 @@
 -- A call that is a whole right side keeps the rules of clocks exactly where the code finds so.
 use Rattle.lb_check.proofs.Words
-use Words.{◌≡◌, ap₂, ℕ, suc, ◌+◌, ◌-◌, ◌<◌, ◌≤◌, ◌⊎◌, inl, inr, Bool, true, false, List, [], ◌∷◌}
-use Words.{◌++◌, length, map, Option, Some, None, refl, ap, sym, ◌∙◌, subst, arith, ◌&&◌, ◌||◌, not}
-use Words.{slice_get, nat_eq, nat_lt, if◌then◌else◌, list_all, nat_tests, length-map, and_from}
-use Words.{and-true, either_or, listed, or_else, Name, Expr, Declaration, and_first, and_second}
-use Words.{both_ways, item_at, all_at, mapped_from, Program, Site, node_named, node_of, texts_of}
-use Words.{counts_of, exprs_of, is_variable, ResolvedNode, Sampling, Term, VariableId, is_clock}
-use Words.{are_clocks, left_clocks, are_on_results, given_inputs, given_outputs, given_name, outer}
-use Words.{above, own_depth, depth, declared_clock, base_clock, base_from, argument_clocks}
-use Words.{result_clocks, statement_clock, name_in, clock_in, is_clock_within, is_clocked_on}
-use Words.{Context, declared_in, operands_of, given_at, clock_sets, are_given, input_clocks}
-use Words.{output_clocks, base_of, all_fit, left_clock_sets, stands_for, result_base, Base}
-use Words.{ClockSet, OneClock, Declared}
-use Rattle.{std.proofs.lemmas.List.nil_from_length, lb_check.specs.TermClocks.is_call_clocked}
-use Rattle.lb_check.specs.declared.own_clock.Clock.{Clock}
-use Rattle.lb_check.proofs.clocking.CallOperands.{KnownOperands, are_given_is, own_inputs}
-use Rattle.lb_check.proofs.clocking.CallOperands.{waited_given, input_waits, output_waits}
-use Rattle.lb_check.proofs.clocking.CallOperands.{inputs_seen, inputs_of, code_known, code_stand}
-use Rattle.lb_check.proofs.clocking.{CallOperands.same_fits, GivenNames.{given_in, given_out}}
+use Words.{Base, Bool, ClockSet, Context, Declaration, Declared, Expr, List, Name, None, OneClock}
+use Words.{Option, Program, ResolvedNode, Sampling, Site, Some, Term, VariableId, [], above, all_at}
+use Words.{all_fit, and-true, and_first, and_from, and_second, ap, ap₂, are_clocks, are_given}
+use Words.{are_on_results, argument_clocks, arith, base_clock, base_from, base_of, clock_in}
+use Words.{clock_sets, counts_of, declared_clock, declared_in, depth, either_or, exprs_of, false}
+use Words.{given_at, given_inputs, given_name, given_outputs, if◌then◌else◌, inl, input_clocks, inr}
+use Words.{is_clock, is_clock_within, is_clocked_on, is_variable, item_at, left_clock_sets}
+use Words.{left_clocks, length, length-map, list_all, listed, map, mapped_from, name_in, nat_eq}
+use Words.{nat_lt, nat_tests, node_named, node_of, not, operands_of, or_else, outer, output_clocks}
+use Words.{own_depth, refl, result_base, result_clocks, slice_get, stands_for, statement_clock}
+use Words.{subst, suc, sym, texts_of, true, ℕ, ◌&&◌, ◌++◌, ◌+◌, ◌-◌, ◌<◌, ◌||◌, ◌∙◌, ◌∷◌, ◌≡◌, ◌≤◌}
+use Words.{◌⊎◌}
+use Rattle.lb_check.proofs.clocking.CallOperands.{KnownOperands, are_given_is, code_known}
+use Rattle.lb_check.proofs.clocking.CallOperands.{code_stand, input_waits, inputs_of, inputs_seen}
+use Rattle.lb_check.proofs.clocking.CallOperands.{output_waits, own_inputs, same_fits, waited_given}
 use Rattle.lb_check.proofs.clocking.ClockTests.{clock_same, clock_turned, declared_is}
-use Rattle.lb_check.proofs.clocking.ClockTests.{declared_within}
-use Rattle.lb_check.proofs.clocking.GivenNames.{found_before, output_at, output_held, variable_held}
-use Rattle.lb_check.proofs.clocking.OuterClocks.{clocks_length, clocks_at, clocks_from, place_split}
-use Rattle.lb_check.proofs.clocking.OuterClocks.{first_part, second_part, IsGiven, IsWithin}
-use Rattle.lb_check.proofs.clocking.OuterClocks.{fits_on, fit_some}
-use Rattle.lb_check.proofs.clocking.OuterClocks.{fit_none, base_within, base_is, stood, clock_equal}
-use Rattle.lb_check.proofs.clocking.OuterClocks.{above_outer, AreOfNode, place_name, variable_at}
-use Rattle.lb_check.proofs.clocking.OuterClocks.{seen, expected_on, AreGiven, StandFor, HaveNames}
-use Rattle.lb_check.proofs.{clocking.OuterClocks.outer_all, lists.ListPairs.{get_mapped, get_taken}}
-use Rattle.lb_check.proofs.lists.ListPairs.{taken, get_dropped, each_pair, pair_at, pairs_from}
+use Rattle.lb_check.proofs.clocking.{ClockTests.declared_within, GivenNames.found_before}
+use Rattle.lb_check.proofs.clocking.GivenNames.{given_in, given_out, output_at, output_held}
+use Rattle.lb_check.proofs.clocking.{GivenNames.variable_held, OuterClocks.{AreGiven, AreOfNode}}
+use Rattle.lb_check.proofs.clocking.OuterClocks.{HaveNames, IsGiven, IsWithin, StandFor}
+use Rattle.lb_check.proofs.clocking.OuterClocks.{above_outer, base_is, base_within, clock_equal}
+use Rattle.lb_check.proofs.clocking.OuterClocks.{clocks_at, clocks_from, clocks_length, expected_on}
+use Rattle.lb_check.proofs.clocking.OuterClocks.{first_part, fit_none, fit_some, fits_on, outer_all}
+use Rattle.lb_check.proofs.clocking.OuterClocks.{place_name, place_split, second_part, seen, stood}
+use Rattle.lb_check.proofs.{clocking.OuterClocks.variable_at, lists.ListPairs.each_pair}
+use Rattle.lb_check.proofs.lists.ListPairs.{get_dropped, get_mapped, get_taken, pair_at, pairs_from}
+use Rattle.lb_check.{proofs.lists.ListPairs.taken, specs.declared.own_clock.Clock.Clock}
+use Rattle.std.proofs.lemmas.List.{nil_from_length}
 use Rattle.lb_syntax.specs.Tree as text
 use Rattle.lb_check.specs.Clocks as tree
 use Rattle.lb_check.proofs.clocking.CallClockSets as one
@@ -376,10 +375,8 @@ module _ {P : Program} {here callee : ResolvedNode} {ctx : Context} {es : List T
     from_base : (o p : Option Clock) → base_of (output_clocks callee) ls ≡ o →
         base_of (input_clocks callee) ss ≡ p
         → code_in (or_else o p) ≡ true → code_out (or_else o p) ≡ true → FitsSome
-    from_base (Some k) p eo ep ok out =
-        off_base k (base_within ops.own row_out k eo) ok out
-    from_base None (Some k) eo ep ok out =
-        off_base k (base_within ops.own row_in k ep) ok out
+    from_base (Some k) p eo ep ok out = off_base k (base_within ops.own row_out k eo) ok out
+    from_base None (Some k) eo ep ok out = off_base k (base_within ops.own row_in k ep) ok out
     from_base None None eo ep ok out = (
       tree.Base,
       sym (fit_none ops.own row_in ep tree.Base) ∙ ok,
@@ -556,7 +553,8 @@ module _ {P : Program} {here callee : ResolvedNode} {ctx : Context} {es : List T
   abbrev fit_out : Bool
   fit_out = all_fit (result_base ctx callee (operands_of ctx es) lefts) Y (output_clocks callee) ls
 
-  rules : (m : ℕ) → (is_clocked_on P here k m whole && are_on_results P (node_of here) k xs whole) ≡
+  pub rules : (m : ℕ) →
+      (is_clocked_on P here k m whole && are_on_results P (node_of here) k xs whole) ≡
       (((g && kept_one) && kept_in) && kept_out)
   rules m =
       let results = λ (o : Option text.Node). list_all
@@ -576,7 +574,7 @@ module _ {P : Program} {here callee : ResolvedNode} {ctx : Context} {es : List T
       ∙ clocks_length _ _ out
       ∙ length-map (node_of callee).outputs c ∙ sym ops.called.resolved.outputs
 
-  code_kept : (((g && kept_one) && kept_in) && kept_out) ≡ true →
+  pub code_kept : (((g && kept_one) && kept_in) && kept_out) ≡ true →
       (nat_eq (length lefts) callee.outputs && (g && (fit_in && fit_out))) ≡ true
   code_kept t =
       let out = and_second ((g && kept_one) && kept_in) kept_out t in
@@ -590,7 +588,7 @@ module _ {P : Program} {here callee : ResolvedNode} {ctx : Context} {es : List T
       let count : nat_eq (length lefts) callee.outputs ≡ true = grind (arith, nat_tests) in
       and_from _ _ count (and_from g _ all (and_from fit_in fit_out z.0 z.1))
 
-  text_kept : (nat_eq (length lefts) callee.outputs && (g && (fit_in && fit_out))) ≡ true →
+  pub text_kept : (nat_eq (length lefts) callee.outputs && (g && (fit_in && fit_out))) ≡ true →
       (((g && kept_one) && kept_in) && kept_out) ≡ true
   text_kept t =
       let count = and_first (nat_eq (length lefts) callee.outputs) _ t in
@@ -605,12 +603,6 @@ module _ {P : Program} {here callee : ResolvedNode} {ctx : Context} {es : List T
       (and_from (g && kept_one) kept_in (and_from g kept_one all (one_kept all many z.0 z.1))
       (in_same all many (from_left all many) ∙ z.0))
       out
-
-  -- a call that is a whole right side stands where the code finds, if its operands do
-  pub equation_stands : (m : ℕ) →
-      (is_clocked_on P here k m whole && are_on_results P (node_of here) k xs whole) ≡
-      is_call_clocked ctx callee (operands_of ctx es) lefts
-  equation_stands m = rules m ∙ both_ways _ _ code_kept text_kept
 
   -- ## The base clock of a call that is a whole right side
 
@@ -645,12 +637,6 @@ module _ {P : Program} {here callee : ResolvedNode} {ctx : Context} {es : List T
         let none = λ (c : tree.Clock). fit_none ops.own (row_in side_given many) e c in
         sym (none b) ∙ none (from_left side_given many) ∙ inside
 
-    any_out : base_of (output_clocks callee) ls ≡ None → (b : tree.Clock) →
-        fits_out side_given many b ≡ true
-    any_out e b =
-        let none = λ (c : tree.Clock). fit_none ops.own (row_out side_given many) e c in
-        sym (none b) ∙ none (from_left side_given many) ∙ outside
-
     -- the base clock that some left variable or operand determines is that of the equation
     found_base : (x : VariableId) (l : List VariableId) → lefts ≡ x ∷ l → (o p : Option Clock) →
         base_of (output_clocks callee) ls ≡ o → base_of (input_clocks callee) ss ≡ p →
@@ -660,7 +646,9 @@ module _ {P : Program} {here callee : ResolvedNode} {ctx : Context} {es : List T
     found_base x l is None (Some b) eo ep =
         base_is ops.own (row_in side_given many) b (from_left side_given many) ep inside
     found_base x l is None None eo ep =
-        let at = λ (b : tree.Clock). left_base side_given many x l is b (any_in ep b) (any_out eo b)
+        let at = λ (b : tree.Clock). left_base side_given many x l is b (any_in ep b)
+        (let none = λ (c : tree.Clock). fit_none ops.own (row_out side_given many) eo c in sym
+        (none b) ∙ none (from_left side_given many) ∙ outside)
         in
         let two : tree.Base ≡ tree.On tree.Base [] true =
         sym (at tree.Base) ∙ at (tree.On tree.Base [] true) in

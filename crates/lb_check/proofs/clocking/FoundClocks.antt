@@ -1,52 +1,49 @@
 -- The clocks and calls that the code finds of nodes are those of their texts.
 use Rattle.lb_check.proofs.Words
-use Words.{◌≡◌, ℕ, ◌+◌, ◌<◌, ◌≤◌, Bool, true, false, List, [], ◌∷◌, ◌++◌, length, map, flat_map}
-use Words.{Option, Some, None, refl, ap, ap₂, sym, ◌∙◌, subst, list_all, zip, list_all-append}
-use Words.{Count, Every, listed, Name, Expr, Statement, and_first, and_second, Program, node_named}
-use Words.{statement_sites, left_names, right_side, node_of, texts_of, counts_of, Texts, expr_of}
-use Words.{exprs_of, named_value, row_of, static_at, site_at, statement_of, is_variable, is_call}
-use Words.{is_within, are_within, is_unhidden, are_unhidden, is_statement_within}
-use Words.{is_statement_unhidden, Reached, CallId, ResolvedNode, ResolvedStatement, Term, Value}
-use Words.{Group', Call', IterateNode', Row_of-Term, items-the_row-Term, VariableId, base_clock}
-use Words.{clock_of, clock_or, ungrouped, are_declared_clocks, are_on_results, is_clocked}
-use Words.{is_occurrence_clocked, is_statement_clocked, HasTermClocks, given_to, is_site, lefts_at}
-use Words.{Occurrence, at, node_occurrences, occurrences, occurrences_each, right_sides}
-use Words.{statement_clock, clock_in, name_in, SeesClocks, is_clocked_on, are_single, is_single}
-use Words.{is_single_within, is_statement_single, FoundCall, FoundTerm, side_clocks, side_call}
-use Words.{determined_clock, placed_arguments, placed_terms, placed_side, placed_statement}
-use Words.{node_terms, Context, context_of, infer_clock, left_clock, operands_in, operands_of}
-use Words.{stands_for, option_map, slice_get, slice_get-map, and_from, holds, E9, E10, unless, Node}
-use Words.{mapped_from, all_at, elaborated_program, IsLawful, Instance, instances, tree_at}
-use Words.{Elaboration, Specialization, Table, check_refusal, IsJudged, is_clock_within, is_typed}
-use Words.{◌&&◌, cond, nat_eq, is_call_within, nothing_found, with_terms}
-use Rattle.lb_check.specs.FoundTerms.{HasFoundCalls, HasFoundClocks}
-use Rattle.lb_check.specs.PlacedClocks.{call_in, found_in}
-use Rattle.lb_check.specs.declared.{found_clocks.NodeClocks.NodeClocks, own_clock.Clock.Clock}
-use Rattle.lb_check.proofs.clocking.PlacedTerms.{call_of_row, call_right}
-use Rattle.lb_check.proofs.clocking.PlacedTerms.{IsCall, IsCallOf}
-use Rattle.lb_check.proofs.clocking.PlacedTerms.{IsTerm, arguments_on, determined_is, given_by}
+use Words.{Bool, Call', CallId, Context, Count, E10, E9, Elaboration, Every, Expr, FoundCall}
+use Words.{FoundTerm, Group', HasTermClocks, Instance, IsJudged, IsLawful, IterateNode', List, Name}
+use Words.{Node, None, Occurrence, Option, Program, Reached, ResolvedNode, ResolvedStatement}
+use Words.{Row_of-Term, SeesClocks, Some, Specialization, Statement, Table, Term, Texts, Value}
+use Words.{VariableId, [], all_at, and_first, and_from, and_second, ap, ap₂, are_declared_clocks}
+use Words.{are_on_results, are_single, are_unhidden, are_within, at, base_clock, check_refusal}
+use Words.{clock_in, clock_of, clock_or, cond, context_of, counts_of, determined_clock}
+use Words.{elaborated_program, expr_of, exprs_of, false, flat_map, given_to, holds, infer_clock}
+use Words.{instances, is_call, is_call_within, is_clock_within, is_clocked, is_clocked_on}
+use Words.{is_occurrence_clocked, is_single, is_single_within, is_site, is_statement_clocked}
+use Words.{is_statement_single, is_statement_unhidden, is_statement_within, is_typed, is_unhidden}
+use Words.{is_variable, is_within, items-the_row-Term, left_clock, left_names, lefts_at, length}
+use Words.{list_all, list_all-append, listed, map, mapped_from, name_in, named_value, nat_eq}
+use Words.{node_named, node_occurrences, node_of, node_terms, nothing_found, occurrences}
+use Words.{occurrences_each, operands_in, operands_of, option_map, placed_arguments, placed_side}
+use Words.{placed_statement, placed_terms, refl, right_side, right_sides, row_of, side_call}
+use Words.{side_clocks, site_at, sites_in, slice_get, slice_get-map, stands_for, statement_clock}
+use Words.{statement_of, statement_sites, static_at, subst, sym, texts_of, tree_at, true, ungrouped}
+use Words.{unless, with_terms, zip, ℕ, ◌&&◌, ◌++◌, ◌+◌, ◌<◌, ◌∙◌, ◌∷◌, ◌≡◌, ◌≤◌}
+use Rattle.lb_check.proofs.clocking.PlacedTerms.{IsCall, IsCallOf, IsTerm, arguments_on}
+use Rattle.lb_check.proofs.clocking.PlacedTerms.{call_of_row, call_right, determined_is, given_by}
 use Rattle.lb_check.proofs.clocking.PlacedTerms.{row_placed, term_placed}
-use Rattle.lb_check.proofs.clocking.PlacedWithin.{node_within}
-use Rattle.lb_check.proofs.clocking.{StatementClockSets.left_is, TermClockSets.row_items}
-use Rattle.lb_check.proofs.clocking.TermClockSets.{operands_items}
-use Rattle.lb_check.proofs.clocking.TermClockSets.{term_stands, called_operands}
-use Rattle.lb_check.proofs.clocking.WalkedClocks.{calls_among, clocks_among, all_found}
-use Rattle.lb_check.proofs.clocking.WholeClocks.{clocked_node}
-use Rattle.lb_check.proofs.definitions.BrokenRules.{first_none, second_none, kept, judged}
-use Rattle.lb_check.proofs.definitions.CallNumbers.{AreFrom, each_from, first_lefts, later_lefts}
+use Rattle.lb_check.proofs.clocking.{PlacedWithin.node_within, StatementClockSets.left_is}
+use Rattle.lb_check.proofs.clocking.TermClockSets.{called_operands, operands_items, row_items}
+use Rattle.lb_check.proofs.clocking.{TermClockSets.term_stands, WalkedClocks.all_found}
+use Rattle.lb_check.proofs.clocking.WalkedClocks.{calls_among, clocks_among}
+use Rattle.lb_check.proofs.{clocking.WholeClocks.clocked_node, definitions.BrokenRules.first_none}
+use Rattle.lb_check.proofs.definitions.BrokenRules.{judged, kept, second_none}
+use Rattle.lb_check.proofs.definitions.CallNumbers.{AreFrom, first_lefts, from_calls, later_lefts}
 use Rattle.lb_check.proofs.definitions.CallNumbers.{lefts_among, no_more, no_own, own_is, own_lefts}
-use Rattle.lb_check.proofs.definitions.CallNumbers.{row_from, statement_below, statements_from}
-use Rattle.lb_check.proofs.lists.ListPairs.{Pairs}
-use Rattle.lb_check.proofs.lists.ListPairs.{Pairs-append, Pairs-with, paired_at, get_mapped}
+use Rattle.lb_check.proofs.definitions.CallNumbers.{row_from, statement_below}
+use Rattle.lb_check.proofs.lists.ListPairs.{Pairs, Pairs-append, Pairs-with, get_mapped, paired_at}
 use Rattle.lb_check.proofs.lists.Members.{Every-all}
 use Rattle.lb_check.proofs.programs.CountedCalls.{call_placed as call_at_place, calls_in}
 use Rattle.lb_check.proofs.programs.CountedCalls.{counted_from, node_counted}
+use Rattle.lb_check.proofs.programs.OccurrenceSites.{body_calls, body_occurrences, calls_each}
 use Rattle.lb_check.proofs.typing.Specializations.{all_specializations}
+use Rattle.lb_check.specs.{FoundTerms.{HasFoundCalls, HasFoundClocks}, PlacedClocks.call_in}
+use Rattle.lb_check.specs.PlacedClocks.{found_in, side_base}
+use Rattle.lb_check.specs.declared.{found_clocks.NodeClocks.NodeClocks, own_clock.Clock.Clock}
 use Rattle.lb_syntax.specs.Tree as tree
 use Rattle.lb_static.specs.declared.resolved.ResolvedStatement.TheVariants as statement
 use Rattle.lb_check.specs.Occurrences as text
 use Rattle.lb_check.proofs.clocking.EquationClockSets as side
-use Rattle.lb_check.specs.PlacedClocks.{side_base}
 
 -- The clocks and calls that the code finds of the terms of a node are those of the occurrences in
 -- its text.
@@ -124,8 +121,7 @@ module _ (P : Program) (r : Reached) (here : ResolvedNode) (sees : SeesClocks P 
   relabel_call : (l k : List Name) (o : Occurrence) (c : Option FoundCall) →
       (is_site o.expr ≡ true → l ≡ k) → IsCall P here l o c → IsCall P here k o c
   relabel_call l k o None same h = h
-  relabel_call l k o (Some c) same h =
-      (h.0, subst (λ l. IsCallOf P here l o c) (same h.0) h.1)
+  relabel_call l k o (Some c) same h = (h.0, subst (λ l. IsCallOf P here l o c) (same h.0) h.1)
 
   relabel : (f g : ℕ → List Name) (Q : Occurrence → Type 0) →
       ((o : Occurrence) → Q o → is_site o.expr ≡ true → f o.calls_before ≡ g o.calls_before) →
@@ -212,8 +208,10 @@ module _ (P : Program) (r : Reached) (here : ResolvedNode) (sees : SeesClocks P 
           ),
         ),
         inner lefts n x _ _
-            (each_from P (node_of here) (text.call_clocks (clock_in here (left_k lefts))
-            (node_named P (site_at texts.calls c).callee) es) (n + 1) es)
+            (from_calls (n + 1) (occurrences_each P (node_of here) (text.call_clocks (clock_in here
+            (left_k lefts)) (node_named P (site_at texts.calls c).callee) es) (n + 1) es)
+            (sites_in es) (calls_each P (node_of here) (text.call_clocks (clock_in here
+            (left_k lefts)) (node_named P (site_at texts.calls c).callee) es) (n + 1) es))
             (subst (λ ls. AreLawful (occurrences_each P (node_of here) ls (n + 1) es) →
             Pairs (IsTerm P here []) (occurrences_each P (node_of here) ls (n + 1) es)
             (placed_arguments ctx ks all))
@@ -282,8 +280,7 @@ module _ (P : Program) (r : Reached) (here : ResolvedNode) (sees : SeesClocks P 
   sides n ss = right_sides P (node_of here) n ss
 
   abbrev are_kept : List Statement → List Occurrence → Bool
-  are_kept ss os =
-      list_all (λ s. is_statement_clocked P (node_of here) s.0 s.1) (zip ss os)
+  are_kept ss os = list_all (λ s. is_statement_clocked P (node_of here) s.0 s.1) (zip ss os)
 
   statements_placed :
       (n : ℕ) (ss : List ResolvedStatement) →
@@ -318,7 +315,8 @@ module _ (P : Program) (r : Reached) (here : ResolvedNode) (sees : SeesClocks P 
       (relabel (lefts_among P (node_of here) m body) among
       (λ o. is_site o.expr ≡ true → m ≤ o.calls_before)
       (λ o later site. later_lefts P (node_of here) n text_of body o.calls_before (later site))
-      rest _ (statements_from P (node_of here) m body)
+      rest _ (from_calls m (body_occurrences P (node_of here) m body) _ (body_calls P (node_of here)
+      m body))
       (statements_placed m ss (and_second _ _ w) (and_second _ _ u) (and_second _ _ s)
       (and_second _ _ split) (and_second _ _ results)))
 
@@ -445,8 +443,7 @@ module _ (P : Program) (r : Reached) (t : Table) (j : IsJudged P r t)
       × (list_all (is_clock_within n) f.terms.items ≡ true)
       × (list_all (is_call_within n) (map call_in f.calls.items) ≡ true)
   of_node i s n at there =
-      let known =
-      clocked_node P r t j typed clocked i s n at there in
+      let known = clocked_node P r t j typed clocked i s n at there in
       let of = λ (n : ResolvedNode). with_terms nothing_found (node_terms r n) in
       let f =
       mapped_from found_in found s.node.0 (of n)

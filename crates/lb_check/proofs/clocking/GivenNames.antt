@@ -1,22 +1,22 @@
 -- The names of the variables that a call gives for those of its callee.
 use Rattle.lb_check.proofs.Words
-use Words.{◌≡◌, cond, ℕ, zero, suc, ◌<◌, Bool, true, false, ◌+◌, List, [], ◌∷◌, ◌++◌, take, map}
-use Words.{length, Option, Some, None, refl, ap, sym, ◌∙◌, subst, arith, ◌&&◌, ◌||◌, not, nat_lt}
-use Words.{is_some, slice_get, bytes_eq, nat_tests, bytes_eq-Decides, holds, either_or, listed}
-use Words.{zip2, length-append, map-append, variable_names, among, variables, IsResolved, node_of}
-use Words.{statics_of, texts_of, counts_of, ResolvedNode, Name, Expr, Static, Declaration}
-use Words.{are_distinct, named, list_all, and-true, not-true, get_first, item_at, and_first}
-use Words.{and_second, or_first, or_second, Texts, Counts, declaration_of, exprs_of, named_value}
-use Words.{name_at, static_at, expr_of, is_variable, is_within, is_unhidden, is_no_variable}
-use Words.{Sampling, VariableId, Given, as_variable, given_inputs, Term, Value, Group', variable_of}
-use Words.{is_variable_at, is_given_variable, are_given_variables, waits_below, ◌≤◌, option_map}
-use Words.{slice_get_within, get_later, distinct_last, given_outputs, HasClocks, name_in, Context}
-use Words.{infer_clock, operands_of, given_at, clock_sets, ClockSet, OneClock, Declared}
-use Rattle.{lb_static.specs.declared.resolved.Term.Variable, lb_check.specs.CallClocks.is_given}
-use Rattle.lb_check.proofs.clocking.ClockDepths.{get_name, among_first, first_names, parameters_are}
-use Rattle.lb_check.proofs.clocking.ClockDepths.{zip_all}
-use Rattle.lb_check.proofs.clocking.{ClockTests.among_at, OuterClocks.place_name}
-use Rattle.lb_check.proofs.lists.Members.{not_among, unequal, distinct_first}
+use Words.{Bool, ClockSet, Context, Counts, Declaration, Declared, Expr, Given, Group', HasClocks}
+use Words.{IsResolved, List, Name, None, OneClock, Option, ResolvedNode, Sampling, Some, Static}
+use Words.{Term, Texts, Value, VariableId, [], among, and-true, and_first, and_second, ap}
+use Words.{are_distinct, are_given_variables, arith, as_variable, bytes_eq, bytes_eq-Decides}
+use Words.{clock_sets, cond, counts_of, declaration_of, distinct_last, either_or, expr_of, exprs_of}
+use Words.{false, get_first, get_later, given_at, given_inputs, given_outputs, holds, infer_clock}
+use Words.{is_given_variable, is_no_variable, is_some, is_unhidden, is_variable, is_variable_at}
+use Words.{is_within, item_at, length, length-append, list_all, listed, map, map-append, name_at}
+use Words.{name_in, named, named_value, nat_lt, nat_tests, node_of, not, not-true, operands_of}
+use Words.{option_map, or_first, or_second, refl, slice_get, slice_get_within, static_at}
+use Words.{statics_of, subst, suc, sym, take, texts_of, true, variable_names, variable_of}
+use Words.{variables, waits_below, zero, zip2, ℕ, ◌&&◌, ◌++◌, ◌+◌, ◌<◌, ◌||◌, ◌∙◌, ◌∷◌, ◌≡◌, ◌≤◌}
+use Rattle.lb_check.proofs.clocking.ClockDepths.{among_first, first_names, get_name, parameters_are}
+use Rattle.lb_check.proofs.clocking.{ClockDepths.zip_all, ClockTests.among_at}
+use Rattle.lb_check.proofs.{clocking.OuterClocks.place_name, lists.Members.distinct_first}
+use Rattle.lb_check.{proofs.lists.Members.{not_among, unequal}, specs.CallClocks.is_given}
+use Rattle.lb_static.specs.declared.resolved.Term.{Variable}
 use Rattle.lb_syntax.specs.Tree as tree
 
 -- The arguments that the code finds to be variables are those of the definition.
@@ -388,13 +388,6 @@ module _ (callee : ResolvedNode) (hc : HasClocks callee) where
       (map-append (λ d. d.name) (node_of callee).outputs (node_of callee).locals))
       hc.distinct
 
-  callee_inputs_distinct : are_distinct (map (λ d. d.name) (node_of callee).inputs) ≡ true
-  callee_inputs_distinct = distinct_first (map (λ d. d.name) (node_of callee).inputs) _ names_split
-
-  outputs_distinct : are_distinct (map (λ d. d.name) (node_of callee).outputs) ≡ true
-  outputs_distinct = distinct_first (map (λ d. d.name) (node_of callee).outputs) _
-      (distinct_last (map (λ d. d.name) (node_of callee).inputs) _ names_split)
-
   -- an output has the name of no input
   not_input : (j : ℕ) (d : Declaration) → slice_get (node_of callee).outputs j ≡ Some d →
       among d.name (map (λ d. d.name) (node_of callee).inputs) ≡ false
@@ -420,7 +413,8 @@ module _ (callee : ResolvedNode) (hc : HasClocks callee) where
       ap (found (given_inputs (node_of callee).inputs (exprs_of (texts_of here) es)))
       (sym (input_at i d.0 d.1).0)
       ∙ named_input (texts_of here)
-      (node_of callee).inputs es i d.0 t.0 y callee_inputs_distinct d.1 t.1 t.2
+      (node_of callee).inputs es i d.0 t.0 y (distinct_first (map (λ d. d.name)
+      (node_of callee).inputs) _ names_split) d.1 t.1 t.2
 
   -- the variable given for an output is found by the name of the output
   pub given_out : (es : tree.Exprs) (xs : List Name) (j : ℕ) (x : Name) → j < callee.outputs →
@@ -434,4 +428,6 @@ module _ (callee : ResolvedNode) (hc : HasClocks callee) where
       ap (found (given ++ more)) (sym (output_at j d.0 d.1).0)
       ∙ ap (option_map (λ g. g.1)) (given_after given more d.0.name
       (none_given d.0.name (node_of callee).inputs es (not_input j d.0 d.1)))
-      ∙ named_output (node_of callee).outputs xs j d.0 x outputs_distinct d.1 e
+      ∙ named_output (node_of callee).outputs xs j d.0 x (distinct_first (map (λ d. d.name)
+      (node_of callee).outputs) _ (distinct_last (map (λ d. d.name) (node_of callee).inputs) _
+      names_split)) d.1 e

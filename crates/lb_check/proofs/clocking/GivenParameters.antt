@@ -1,24 +1,23 @@
 -- The clocks of the parameters of a callee: each variable that such a clock waits for is a clock
 -- parameter, and the call gives it a variable of the caller.
 use Rattle.lb_check.proofs.Words
-use Words.{◌≡◌, ◌⊎◌, inl, inr, ℕ, suc, Bool, true, false, cond, Option, Some, None, List, [], ◌∷◌}
-use Words.{◌++◌, length, map, refl, ap, ap₂, sym, ◌∙◌, subst, arith, ◌||◌, not, is_some, option_map}
-use Words.{filter, bytes_eq, append_assoc, map-append, bytes_eq-Decides, ◌>>=◌, In, either_or}
-use Words.{holds, listed, Name, Exprs, Declaration, Node, all_in, and_first, and_second, implied}
-use Words.{variables, Program, Instance, Path, Child, instance_at, among, variable_names, named}
-use Words.{any_in, is_clocked_by, are_declared_clocks, is_given_variable, are_given_variables}
-use Words.{is_base_clocked_node, Clock, On, Given, variable_clock, declared_clock, given_name}
-use Words.{outer, given_inputs, given_outputs, WholeClock, Always, Where, is_clock_parameter}
-use Words.{call_at, given_to, serves, serving, whole_clock, site_clock, runs_on, Occurrence}
-use Rattle.{lb_syntax.specs.Tree.Sampling, lb_check.specs.{Clocks.Base, Needs.given_at}}
-use Rattle.lb_check.proofs.clocking.GivenNames.{none_given}
+use Words.{Always, Bool, Child, Clock, Declaration, Exprs, Given, In, Instance, List, Name, Node}
+use Words.{None, Occurrence, On, Option, Path, Program, Some, Where, WholeClock, [], all_in, among}
+use Words.{and_first, and_second, any_in, ap, append_assoc, ap₂, are_declared_clocks}
+use Words.{are_given_variables, arith, bytes_eq, bytes_eq-Decides, call_at, cond, declared_clock}
+use Words.{either_or, false, filter, given_inputs, given_name, given_outputs, given_to, holds}
+use Words.{implied, inl, inr, instance_at, is_base_clocked_node, is_clock_parameter, is_clocked_by}
+use Words.{is_given_variable, is_some, length, listed, map, map-append, named, not, option_map}
+use Words.{outer, refl, runs_on, serves, serving, site_clock, subst, suc, sym, true, variable_clock}
+use Words.{variable_names, variables, whole_clock, ℕ, ◌++◌, ◌>>=◌, ◌||◌, ◌∙◌, ◌∷◌, ◌≡◌, ◌⊎◌}
+use Rattle.lb_check.proofs.clocking.{GivenNames.none_given, NamedClocks.{IsOver, bytes_turned}}
+use Rattle.lb_check.proofs.clocking.NamedClocks.{clock_or_over, found_first, input_over, named_over}
+use Rattle.lb_check.proofs.clocking.NamedClocks.{one_clock, output_over, own_names}
+use Rattle.lb_check.proofs.lists.Members.{Every-at, Every-from, in_either}
+use Rattle.lb_check.{proofs.programs.OccurrenceSites.find_first, specs.Clocks.Base}
+use Rattle.{lb_check.specs.Needs.given_at, lb_static.proofs.Scopes.among_append}
+use Rattle.lb_syntax.specs.Tree.{Sampling}
 pub use Rattle.lb_check.proofs.clocking.GivenNames.{given_after}
-use Rattle.lb_check.proofs.clocking.NamedClocks.{bytes_turned, IsOver, found_first}
-use Rattle.lb_check.proofs.clocking.NamedClocks.{named_over, clock_or_over, own_names, input_over}
-use Rattle.lb_check.proofs.{clocking.NamedClocks.{output_over, one_clock}, lists.Members.in_either}
-use Rattle.lb_check.proofs.lists.Members.{Every-at, Every-from}
-use Rattle.lb_check.proofs.programs.OccurrenceSites.{find_first}
-use Rattle.lb_static.proofs.Scopes.{among_append}
 
 -- ## The pair that is found by a name
 
@@ -55,8 +54,7 @@ found_filtered test (g ∷ given) x e =
         found_in (filter (λ g. test g.0) given) x ≡ found_in given x →
         found_in (cond a (g ∷ filter (λ g. test g.0) given) (filter (λ g. test g.0) given)) x
         ≡ cond b (Some g) (found_in given x)
-    by true true p q rest =
-        ap (λ b. cond b (Some g) (found_in (filter (λ g. test g.0) given) x)) q
+    by true true p q rest = ap (λ b. cond b (Some g) (found_in (filter (λ g. test g.0) given) x)) q
     by true false p q rest =
         ap (λ b. cond b (Some g) (found_in (filter (λ g. test g.0) given) x)) q ∙ rest
     by false true p q rest = absurd (here p q)
@@ -138,8 +136,7 @@ module _ (callee : Node) (declared : are_declared_clocks callee ≡ true) where
       among s.variable (names_of parameters) ≡ true
   waited d s i is = by (in_either d callee.inputs callee.outputs i)
     where
-      by : In d callee.inputs ⊎ In d callee.outputs →
-          among s.variable (names_of parameters) ≡ true
+      by : In d callee.inputs ⊎ In d callee.outputs → among s.variable (names_of parameters) ≡ true
       by (inl j) =
           let test = all_in (is_clocked_by callee.inputs) callee.inputs d
           (and_first _ _ declared) j in

@@ -1,24 +1,22 @@
 -- The variables that the code finds to stand for those of a callee.
 use Rattle.lb_check.proofs.Words
-use Words.{◌≡◌, ◌≢◌, ℕ, suc, ◌+◌, ◌-◌, ◌<◌, ◌≤◌, List, [], ◌∷◌, ◌++◌, Option, refl, ap, sym, ◌∙◌}
-use Words.{arith, Bool, true, false, length, drop, get_or, subst, ◌||◌, nat_eq, list_any, set}
-use Words.{nat_tests, append_assoc, append-nil, drop_more, listed, ResolvedNode, Variable}
-use Words.{VariableId, given_from, given_variable, GivenVariable, zero, map, take, Some, None, ap₂}
-use Words.{◌==◌, filter, not, is_some, option_map, nat_lt, slice_get, if◌then◌else◌, list_all}
-use Words.{bytes_eq, map-append, length-take-le, slice_get_within, lt-ltb, either_or, holds, zip2}
-use Words.{Name, Declaration, item_at, and_first, and_second, variable_names, node_of, statics_of}
-use Words.{texts_of, declaration_of, expr_of, exprs_of, name_at, Sampling, Term, variable_of, Given}
-use Words.{as_variable, given_inputs, given_outputs, waits_below, pair_names, is_clock_parameter}
-use Words.{given_parameters, HasClocks, name_in, given_variables, is_awaited, pair_at, Context}
-use Words.{are_given, given_at, is_given, operands_of, stands_for, cond, Declared}
-use Rattle.std.proofs.{Math.Bool.{or_assoc, or_comm}, lemmas.List.get_or-set_other}
-use Rattle.std.proofs.lemmas.List.{get_or-set_same, Elements.filter-append}
-use Rattle.lb_check.{specs.PlacedClocks.waits_at, proofs.clocking.ClockDepths.as_many_names}
-use Rattle.lb_check.proofs.clocking.ClockDepths.{parameters_are}
+use Words.{Bool, Context, Declaration, Declared, Given, GivenVariable, HasClocks, List, Name, None}
+use Words.{Option, ResolvedNode, Sampling, Some, Term, Variable, VariableId, [], and_first}
+use Words.{and_second, ap, append_assoc, ap₂, are_given, arith, as_variable, bytes_eq, cond}
+use Words.{declaration_of, drop, drop_more, either_or, expr_of, exprs_of, false, filter, get_or}
+use Words.{given_at, given_from, given_inputs, given_outputs, given_parameters, given_variable}
+use Words.{given_variables, holds, if◌then◌else◌, is_awaited, is_clock_parameter, is_given, is_some}
+use Words.{item_at, length, length-take-le, list_all, list_any, listed, lt-ltb, map, map-append}
+use Words.{name_at, name_in, nat_eq, nat_lt, nat_tests, node_of, not, operands_of, option_map}
+use Words.{pair_at, pair_names, refl, set, slice_get, slice_get_within, stands_for, statics_of}
+use Words.{subst, suc, sym, take, texts_of, true, variable_names, variable_of, waits_below, zero}
+use Words.{zip2, ℕ, ◌++◌, ◌+◌, ◌-◌, ◌<◌, ◌==◌, ◌||◌, ◌∙◌, ◌∷◌, ◌≡◌, ◌≢◌, ◌≤◌}
+use Rattle.lb_check.proofs.clocking.ClockDepths.{as_many_names, parameters_are}
 use Rattle.lb_check.proofs.clocking.GivenNames.{all_variables, input_at, output_at, variable_as}
-use Rattle.lb_check.proofs.clocking.GivenNames.{variable_held}
-use Rattle.lb_check.proofs.clocking.OuterClocks.{first_part, second_part}
-use Rattle.lb_check.proofs.{clocking.OuterClocks.place_name, lists.Members.distinct_at}
+use Rattle.lb_check.proofs.clocking.{GivenNames.variable_held, OuterClocks.{first_part, place_name}}
+use Rattle.lb_check.proofs.{clocking.OuterClocks.second_part, lists.Members.distinct_at}
+use Rattle.{lb_check.specs.PlacedClocks.waits_at, std.proofs.Math.Bool.{or_assoc, or_comm}}
+use Rattle.std.proofs.lemmas.List.{get_or-set_other, get_or-set_same, Elements.filter-append}
 
 -- Flags of awaited variables, and the pairs that a loop over places finds, from a place on.
 
@@ -82,12 +80,6 @@ module _ (n : ResolvedNode) (given : ℕ → Option VariableId) (count i : ℕ)
       ∙ ap (λ j. done ++ (one ++ given_from n given j (count - (i + 1)))) next
       ∙ sym (append_assoc done one (given_from n given (i + 1) (count - (i + 1))))
       ∙ ap (λ l. l ++ given_from n given (i + 1) (count - (i + 1))) (sym e)
-
-  -- no place is left
-  pub given_end : count ≤ i → given_from n given 0 count ≡ done
-  given_end le =
-      let none : count - i ≡ 0 = omega arith in
-      known ∙ ap (λ m. done ++ given_from n given i m) none ∙ append-nil done
 
 -- The variables that the code finds to stand for clock parameters of a callee are those that the
 -- text gives.

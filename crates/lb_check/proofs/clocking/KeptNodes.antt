@@ -1,14 +1,8 @@
 -- What is kept of the node at a place: the clocks of its terms, or what is found of its calls.
-use Rattle.lb_check.proofs.Words.{◌≡◌, ℕ, ◌<◌, ◌≤◌, List, [], ap, sym, ◌∙◌, length, get_or, listed}
-use Rattle.lb_check.proofs.Words.{slice_get}
-use Rattle.lb_check.specs.declared.checked.Checking.{Checking}
+use Rattle.lb_check.proofs.Words.{List, [], ap, get_or, length, listed, slice_get, sym, ℕ, ◌<◌, ◌∙◌}
+use Rattle.lb_check.{proofs.Words.{◌≡◌, ◌≤◌}, specs.declared.checked.Checking.Checking}
 use Rattle.lb_check.specs.declared.found_clocks.NodeClocks.{NodeClocks}
 use Rattle.lb_static.proofs.Lookups.{held, past}
-
--- the nodes that are read are those of the checked program
-read_same : (read : List NodeClocks) (inside now : Checking) → read ≡ inside.clocks.items
-    → inside ≡ now → read ≡ now.clocks.items
-read_same read inside now same view = same ∙ ap (λ k. k.clocks.items) view
 
 -- the list `field` of the node that is found at this place
 pub kept_at : {A : Type 0} (field : NodeClocks → List A) (read : List NodeClocks)
@@ -17,7 +11,7 @@ pub kept_at : {A : Type 0} (field : NodeClocks → List A) (read : List NodeCloc
     → field found ≡ listed field (slice_get now.clocks.items i)
 kept_at field read inside now i found same view below is =
     sym (ap (listed field)
-    (held read now.clocks.items i found (read_same read inside now same view) below is))
+    (held read now.clocks.items i found (same ∙ ap (λ k. k.clocks.items) view) below is))
 
 -- no such list past the last node
 pub kept_past : {A : Type 0} (field : NodeClocks → List A) (read : List NodeClocks)
@@ -25,4 +19,4 @@ pub kept_past : {A : Type 0} (field : NodeClocks → List A) (read : List NodeCl
     → length read ≤ i → [] ≡ listed field (slice_get now.clocks.items i)
 kept_past field read inside now i same view above =
     sym (ap (listed field)
-    (past read now.clocks.items i (read_same read inside now same view) above))
+    (past read now.clocks.items i (same ∙ ap (λ k. k.clocks.items) view) above))

@@ -261,8 +261,7 @@ module _ (Seen : Name → Type 0) (here callee : Node) (es : Exprs)
 
   -- a parameter waits for inputs alone, and is given a variable for the one that it waits for
   abbrev Waits : Declaration → Type 0
-  Waits d =
-      (is_clocked_by callee.inputs d ≡ true) × (is_given_variable here callee given d ≡ true)
+  Waits d = (is_clocked_by callee.inputs d ≡ true) × (is_given_variable here callee given d ≡ true)
 
   inputs_wait : Every Waits callee.inputs
   inputs_wait =
@@ -403,8 +402,7 @@ module _ (V : Name → Type 0) (here callee : Node) (es : Exprs)
       subst V (sym (ap (λ o. either_or (option_map (λ g. g.1) o) x) is)) (among_has V g.1 _ all e)
 
   -- `V` holds of each variable of the clocks of the arguments
-  pub arguments_over :
-      (k : Clock) → IsOver V k → Every (IsOver V) (argument_clocks k callee es)
+  pub arguments_over : (k : Clock) → IsOver V k → Every (IsOver V) (argument_clocks k callee es)
   arguments_over k h = by callee.inputs (own_names callee.inputs)
     where
       by : (ds : List Declaration) →

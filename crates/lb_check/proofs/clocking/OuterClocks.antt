@@ -1,19 +1,18 @@
 -- The clocks of a callee as its caller sees them, and the operands that fit them.
 use Rattle.lb_check.proofs.Words
-use Words.{◌≡◌, ℕ, zero, suc, ◌+◌, ◌-◌, ◌<◌, ◌≤◌, ◌⊎◌, inl, inr, Bool, true, false, List, [], ◌∷◌}
-use Words.{if◌then◌else◌, lt-ltb, add-sub_cancel_left, length, Some, refl, ap, sym, ◌∙◌, arith}
-use Words.{slice_get, nat_lt, nat_tests, and_from, and_first, and_second, is_clock, are_clocks}
-use Words.{Option, None, subst, ◌&&◌, option_map, slice_get_within, either_or, Name, item_at}
-use Words.{variable_names, node_of, counts_of, is_variable, ResolvedNode, Sampling, Variable}
-use Words.{VariableId, Given, given_name, outer, above, depth, declared_clock, awaited, HasClocks}
-use Words.{name_in, clock_in, is_clock_within, declared_in, is_same, Base, ClockSet, NoClock}
-use Words.{AnyClock, OneClock, holds, accepts_clock, expected, base_of, all_fit}
-use Rattle.lb_check.specs.declared.own_clock.Clock.{Clock, TheVariants.On}
+use Words.{AnyClock, Base, Bool, ClockSet, Given, HasClocks, List, Name, NoClock, None, OneClock}
+use Words.{Option, ResolvedNode, Sampling, Some, Variable, VariableId, [], above, accepts_clock}
+use Words.{add-sub_cancel_left, all_fit, and_first, and_from, and_second, ap, are_clocks, arith}
+use Words.{awaited, base_of, clock_in, counts_of, declared_clock, declared_in, depth, either_or}
+use Words.{expected, false, given_name, holds, if◌then◌else◌, inl, inr, is_clock, is_clock_within}
+use Words.{is_same, is_variable, item_at, length, lt-ltb, name_in, nat_lt, nat_tests, node_of}
+use Words.{option_map, outer, refl, slice_get, slice_get_within, subst, suc, sym, true}
+use Words.{variable_names, zero, ℕ, ◌&&◌, ◌+◌, ◌-◌, ◌<◌, ◌∙◌, ◌∷◌, ◌≡◌, ◌≤◌, ◌⊎◌}
 use Rattle.lb_check.proofs.clocking.{ClockDepths.are_awaited, ClockTests.{clock_same, clock_turned}}
-use Rattle.lb_check.proofs.clocking.ClockTests.{declared_is, same_is}
+use Rattle.lb_check.proofs.clocking.{ClockTests.{declared_is, same_is}, OwnClocks.clock_itself}
 use Rattle.lb_check.proofs.clocking.OwnClocks.{clock_of_free, clock_of_waiting}
-use Rattle.lb_check.proofs.{clocking.OwnClocks.clock_itself, lists.ListPairs.{each_pair, pair_at}}
-use Rattle.lb_check.proofs.lists.ListPairs.{same_pairs}
+use Rattle.lb_check.proofs.lists.ListPairs.{each_pair, pair_at, same_pairs}
+use Rattle.lb_check.specs.declared.own_clock.Clock.{Clock, TheVariants.On}
 use Rattle.lb_check.specs.Clocks as tree
 
 -- Two lists of clocks that are the same, and the places of the inputs and outputs of a node.

@@ -1,16 +1,15 @@
 -- The clock of a declared variable stands one step below that of the variable that it waits for.
 use Rattle.lb_check.proofs.Words
-use Words.{◌⊎◌, inl, inr, bind_some, ◌≡◌, ◌≢◌, ℕ, zero, suc, ◌<◌, Bool, true, false, List, [], ◌++◌}
-use Words.{length, Option, Some, None, refl, ap, sym, ◌∙◌, subst, arith, ◌&&◌, ◌==◌, is_some}
-use Words.{option_map, slice_get, nat_eq, bytes_eq, bytes_eq-Decides, beq, list_all, nat_tests}
-use Words.{and-true, ◌>>=◌, either_or, Name, Declaration, all_at, item_at, and_second, named}
-use Words.{variable_names, variables, declaration_of, sampling_of, is_variable, node_of, statics_of}
-use Words.{counts_of, ResolvedNode, Sampling, Variable, VariableId, Clock, On, clock_within}
-use Words.{sampled, clock_or, variable_clock, declared_clock, is_clocked_by, is_clock, same}
-use Words.{awaited, HasClocks, name_in, clock_in, is_clock_within, Compared}
-use Rattle.lb_check.{specs.Clocks.Base, proofs.clocking.ClockDepths.{at_place, at_name}}
-use Rattle.lb_check.proofs.clocking.ClockDepths.{as_many_names, are_awaited}
-use Rattle.lb_check.proofs.lists.Members.{distinct_at}
+use Words.{Bool, Clock, Compared, Declaration, HasClocks, List, Name, None, On, Option}
+use Words.{ResolvedNode, Sampling, Some, Variable, VariableId, [], all_at, and-true, and_second, ap}
+use Words.{arith, awaited, beq, bind_some, bytes_eq, bytes_eq-Decides, clock_in, clock_or}
+use Words.{clock_within, counts_of, declaration_of, declared_clock, either_or, false, inl, inr}
+use Words.{is_clock, is_clock_within, is_clocked_by, is_some, is_variable, item_at, length}
+use Words.{list_all, name_in, named, nat_eq, nat_tests, node_of, option_map, refl, same, sampled}
+use Words.{sampling_of, slice_get, statics_of, subst, suc, sym, true, variable_clock}
+use Words.{variable_names, variables, zero, ℕ, ◌&&◌, ◌++◌, ◌<◌, ◌==◌, ◌>>=◌, ◌∙◌, ◌≡◌, ◌≢◌, ◌⊎◌}
+use Rattle.lb_check.proofs.clocking.ClockDepths.{are_awaited, as_many_names, at_name, at_place}
+use Rattle.lb_check.{proofs.lists.Members.distinct_at, specs.Clocks.Base}
 use Rattle.lb_syntax.specs.Tree as tree
 use Rattle.lb_check.specs.declared.own_clock.Clock.TheVariants as code
 
@@ -21,11 +20,6 @@ beq_same false true = refl
 beq_same false false = refl
 
 -- ## A clock within more steps
-
--- a variable without a clock has the base clock
-pub base_step : (m : ℕ) (ds : List Declaration) (d : Declaration) → d.clock ≡ None →
-    clock_within (suc m) ds d ≡ Some Base
-base_step m ds d e = ap (sampled (clock_within m ds) ds) e
 
 -- the clock of a variable stands on that of the variable that it waits for
 pub clock_step : (m : ℕ) (ds : List Declaration) (d v : Declaration) (s : tree.Sampling) (k : Clock)
@@ -74,7 +68,7 @@ pub more_steps : (m : ℕ) (ds : List Declaration) (d : Declaration) (k : Clock)
 more_steps zero ds d k e = absurd cc
 more_steps (suc m) ds d k e =
     elim (clock_found m ds d k e) [
-      | inl free ↦ base_step (suc m) ds d free.0 ∙ ap Some free.1
+      | inl free ↦ ap (sampled (clock_within (suc m) ds) ds) free.0 ∙ ap Some free.1
       | inr w ↦ clock_step (suc m) ds d w.variable w.waits w.clock w.has w.found
           (more_steps m ds w.variable w.clock w.is) ∙ ap Some w.on
     ]

@@ -1,11 +1,10 @@
 -- The clocks that are found of a node are its base clock or clocks of its variables.
-use Rattle.lb_check.proofs.Words.{◌≡◌, None, List, [], ◌∷◌, map, refl, sym, subst, Every, In}
-use Rattle.lb_check.proofs.Words.{Program, Instance, instances, static_refusal, node_of}
-use Rattle.lb_check.proofs.Words.{ResolvedNode, check_refusal, HasTermClocks, Occurrence}
-use Rattle.lb_check.proofs.Words.{node_occurrences, clock_in, Base}
+use Rattle.lb_check.proofs.Words.{Base, Every, HasTermClocks, In, Instance, List, None, Occurrence}
+use Rattle.lb_check.proofs.Words.{Program, ResolvedNode, [], check_refusal, clock_in, instances}
+use Rattle.lb_check.proofs.Words.{map, node_occurrences, node_of, refl, static_refusal, subst, sym}
+use Rattle.lb_check.proofs.{Words.{◌∷◌, ◌≡◌}, clocking.{DeclaredClocks.IsOwn, NamedClocks.IsOver}}
+use Rattle.lb_check.proofs.programs.TypedOccurrences.{IsTypedOver, IsVariable, occurrences_fit}
 use Rattle.lb_check.specs.declared.own_clock.Clock.{Clock, TheVariants.On}
-use Rattle.lb_check.proofs.clocking.{DeclaredClocks.IsOwn, NamedClocks.IsOver}
-use Rattle.lb_check.proofs.programs.TypedOccurrences.{IsVariable, IsTypedOver, occurrences_fit}
 use Rattle.lb_check.specs.Clocks as tree
 
 module _ (n : ResolvedNode) where

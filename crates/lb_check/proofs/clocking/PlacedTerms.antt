@@ -1,37 +1,35 @@
 -- The clocks and calls that the code finds of the parts of a term are those of its occurrences.
 use Rattle.lb_check.proofs.Words
-use Words.{◌≡◌, ℕ, ◌+◌, Bool, true, false, List, [], ◌∷◌, ◌++◌, map, Option, Some, None, refl, ap}
-use Words.{ap₂, sym, ◌∙◌, subst, arith, ◌&&◌, nat_eq, list_all, nat_tests, list_all-append, Count}
-use Words.{◌>>=◌, either_or, holds, listed, Name, Static, Expr, and_first, and_second, Program}
-use Words.{node_named, variable_names, node_of, texts_of, counts_of, Texts, expr_of, exprs_of}
-use Words.{row_of, named_value, static_at, site_at, is_call, is_within, are_within, is_unhidden}
-use Words.{are_unhidden, Reached, CallId, ResolvedNode, Term, Literal, Truth, Value, Group', Unary'}
-use Words.{Binary', If', Arrow', Fby', Pre', Current', When', Replicate', Index', Slice', Join'}
-use Words.{Array', AtMostOne', Nor', Call', IterateNode', IterateSymbol', Row_of-Term, end_of-Term}
-use Words.{more_of-Term, items-the_row-Term, Given, clock_of, clock_or, declared_clock}
-use Words.{given_inputs, outer, is_occurrence_clocked, pair_names, given_parameters, is_site}
-use Words.{site_clock, Occurrence, at, call_count, occurrences, occurrences_in, occurrences_each}
-use Words.{name_in, clock_in, IsClockSet, SeesClocks, is_clocked_on, is_single, are_single}
-use Words.{calls_single, FoundCall, FoundTerm, part, placed_terms, placed_row, placed_arguments}
-use Words.{determined_clock, given_variables, nested_call, Context, context_of, declared_in}
-use Words.{infer_clock, operands_in, operands_of, input_clocks, clock_sets, given_at, ClockSet}
-use Words.{NoClock, AnyClock, OneClock, ◌<◌, VariableId, are_given}
-use Rattle.lb_static.specs.declared.resolved.Term.{Variable}
-use Rattle.lb_check.specs.{FoundTerms.{are_parameters, given_names}, PlacedClocks.argument_clocks}
-use Rattle.lb_check.specs.{PlacedClocks.call_clocks, declared.own_clock.Clock.Clock}
+use Words.{AnyClock, Array', Arrow', AtMostOne', Binary', Bool, Call', CallId, ClockSet, Context}
+use Words.{Count, Current', Expr, Fby', FoundCall, FoundTerm, Given, Group', If', Index'}
+use Words.{IsClockSet, IterateNode', IterateSymbol', Join', List, Literal, Name, NoClock, None}
+use Words.{Nor', Occurrence, OneClock, Option, Pre', Program, Reached, Replicate', ResolvedNode}
+use Words.{Row_of-Term, SeesClocks, Slice', Some, Static, Term, Texts, Truth, Unary', Value}
+use Words.{VariableId, When', [], and_first, and_second, ap, ap₂, are_given, are_single}
+use Words.{are_unhidden, are_within, arith, at, call_count, calls_single, clock_in, clock_of}
+use Words.{clock_or, clock_sets, context_of, counts_of, declared_clock, declared_in}
+use Words.{determined_clock, either_or, end_of-Term, expr_of, exprs_of, false, given_at}
+use Words.{given_inputs, given_parameters, given_variables, holds, infer_clock, input_clocks}
+use Words.{is_call, is_clocked_on, is_occurrence_clocked, is_single, is_site, is_unhidden}
+use Words.{is_within, items-the_row-Term, list_all, list_all-append, listed, map, more_of-Term}
+use Words.{name_in, named_value, nat_eq, nat_tests, nested_call, node_named, node_of, occurrences}
+use Words.{occurrences_each, occurrences_in, operands_in, operands_of, outer, pair_names, part}
+use Words.{placed_arguments, placed_row, placed_terms, refl, row_of, site_at, site_clock, static_at}
+use Words.{subst, sym, texts_of, true, variable_names, ℕ, ◌&&◌, ◌++◌, ◌+◌, ◌<◌, ◌>>=◌, ◌∙◌, ◌∷◌}
+use Words.{◌≡◌}
 use Rattle.lb_check.proofs.clocking.CallOperands.{KnownOperands, arguments_placed}
-use Rattle.lb_check.proofs.clocking.OuterClocks.{fits_on}
 use Rattle.lb_check.proofs.clocking.{ClockTests.declared_is, GivenVariables.given_is}
-use Rattle.lb_check.proofs.clocking.PlacedWithin.{are_among, parameters_within}
-use Rattle.lb_check.proofs.clocking.TermClockSets.{row_items}
-use Rattle.lb_check.proofs.clocking.TermClockSets.{operands_items, term_stands, called_operands}
-use Rattle.lb_check.proofs.lists.ListPairs.{Pairs}
-use Rattle.lb_check.proofs.lists.ListPairs.{Pairs-append}
+use Rattle.lb_check.proofs.clocking.{OuterClocks.fits_on, PlacedWithin.are_among}
+use Rattle.lb_check.proofs.clocking.{PlacedWithin.parameters_within, TermClockSets.called_operands}
+use Rattle.lb_check.proofs.clocking.TermClockSets.{operands_items, row_items, term_stands}
+use Rattle.lb_check.{proofs.lists.ListPairs.{Pairs, Pairs-append}, specs.FoundTerms.are_parameters}
+use Rattle.lb_check.specs.{FoundTerms.given_names, PlacedClocks.{argument_clocks, call_base}}
+use Rattle.lb_check.specs.{PlacedClocks.call_clocks, declared.own_clock.Clock.Clock}
+use Rattle.lb_static.specs.declared.resolved.Term.{Variable}
 use Rattle.lb_syntax.specs.Tree as tree
 use Rattle.lb_check.specs.Clocks as clocks
 use Rattle.lb_check.specs.Occurrences as text
 use Rattle.lb_check.proofs.clocking.CallClockSets as one
-use Rattle.lb_check.specs.PlacedClocks.{call_base}
 
 -- ## The found term of an occurrence
 
@@ -47,8 +45,7 @@ pub record IsCallOf (P : Program) (n : ResolvedNode) (lefts : List Name) (o : Oc
   pub given : given_by P o.expr lefts ≡ given_names P n o.expr c.given
   pub parameters : are_parameters P o.expr c.given ≡ true
 
-abbrev pub IsCall :
-    Program → ResolvedNode → List Name → Occurrence → Option FoundCall → Type 0
+abbrev pub IsCall : Program → ResolvedNode → List Name → Occurrence → Option FoundCall → Type 0
 IsCall P n lefts o None = is_site o.expr ≡ false
 IsCall P n lefts o (Some c) = (is_site o.expr ≡ true) × IsCallOf P n lefts o c
 

@@ -249,8 +249,7 @@ module _ (here : ResolvedNode) where
           both_in _ _ (term_in a (and_first _ _ w)) (term_in b (and_second _ _ w))
       term_in (Pre' p e) w = term_in e w
       term_in (Current' p e) w = raised_in (infer_clock ctx e) (term_in e w)
-      term_in (When' p e x sign) w =
-          if_in _ (OneClock (On x sign)) (and_first _ _ w)
+      term_in (When' p e x sign) w = if_in _ (OneClock (On x sign)) (and_first _ _ w)
       term_in (Replicate' p e i) w = term_in e (and_second _ _ w)
       term_in (Index' p e i) w = term_in e (and_second _ _ w)
       term_in (Slice' p e i j) w = term_in e (and_second _ _ (and_second _ _ w))
@@ -294,8 +293,7 @@ module _ (here : ResolvedNode) where
     call_base_in :
         (k : Clock) → IsIn k → (os : List Operand) → AreOperands os → (n : ResolvedNode) →
         IsIn (call_base k n os)
-    call_base_in k p os h n =
-        or_in _ k (base_in (input_clocks n) _ (sets_in os h)) p
+    call_base_in k p os h n = or_in _ k (base_in (input_clocks n) _ (sets_in os h)) p
 
     nested_in :
         (k : Clock) → IsIn k → (os : List Operand) → AreOperands os → (o : Option ResolvedNode) →
@@ -456,8 +454,7 @@ module _ (here : ResolvedNode) where
         AreFound (placed_statement ctx s)
     statement_in (statement.Equation lefts e) w =
         side_in lefts.items (and_first _ _ w) e (and_second _ _ w)
-    statement_in (statement.Assertion e) w =
-        placed_in _ (determined_in _ (term_in e w)) e w
+    statement_in (statement.Assertion e) w = placed_in _ (determined_in _ (term_in e w)) e w
 
     statements_in :
         (ss : List ResolvedStatement) →

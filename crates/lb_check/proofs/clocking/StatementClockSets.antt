@@ -1,27 +1,27 @@
 -- The statements of a node keep the rules of clocks exactly where the code finds it.
 use Rattle.lb_check.proofs.Words
-use Words.{◌≡◌, ap₂, ℕ, zero, suc, Bool, true, false, ◌+◌, List, [], ◌∷◌, length, map, Some}
-use Words.{items-the_row-Term, refl, ap, sym, ◌∙◌, subst, ◌&&◌, slice_get, list_all, zip}
-use Words.{list_all-append, and-true, holds, Name, Node, Expr, Exprs, Static, Statement, all_at}
-use Words.{and_first, and_second, Program, statement_sites, right_side, node_of, texts_of}
-use Words.{counts_of, Texts, is_variable, is_call, is_within, are_within, is_unhidden, are_unhidden}
-use Words.{is_statement_within, is_statement_unhidden, expr_of, exprs_of, row_of, named_value}
-use Words.{static_at, statement_of, site_at, Reached, CallId, ResolvedNode, ResolvedStatement, Term}
-use Words.{Value, Group', Call', Row_of-Term, VariableId, same, clock_of, clock_or, declared_clock}
-use Words.{ungrouped, is_clock, is_clocked, is_occurrence_clocked, is_statement_clocked}
-use Words.{are_on_results, left_clocks, at_place, is_part_clocked, at, occurrences, right_sides}
-use Words.{statement_clock, statements, clock_in, is_clock_within, name_in, is_clocked_on}
-use Words.{IsClockSet, SeesClocks, is_single, are_single, is_single_within, is_statement_single}
-use Words.{Context, context_of, declared_in, is_same, accepts_clock, operands_in, operands_of}
-use Words.{infer_clock, left_clock, is_equation_clocked, is_resolved_statement_clocked}
-use Words.{is_body_clocked, ClockSet, NoClock, AnyClock, OneClock, flat_map, Occurrence}
-use Rattle.lb_check.specs.{BrokenParts.is_side_clocked, TermClocks.is_one_clocked}
-use Rattle.lb_check.specs.{TermClocks.{is_call_clocked, stands}, declared.own_clock.Clock.Clock}
+use Words.{AnyClock, Bool, Call', CallId, ClockSet, Context, Expr, Exprs, Group', IsClockSet, List}
+use Words.{Name, NoClock, Node, Occurrence, OneClock, Program, Reached, ResolvedNode}
+use Words.{ResolvedStatement, Row_of-Term, SeesClocks, Some, Statement, Static, Term, Texts, Value}
+use Words.{VariableId, [], accepts_clock, all_at, and-true, and_first, and_second, ap, ap₂}
+use Words.{are_on_results, are_single, are_unhidden, are_within, at, at_place, both_ways, clock_in}
+use Words.{clock_of, clock_or, context_of, counts_of, declared_clock, declared_in, expr_of}
+use Words.{exprs_of, false, flat_map, holds, infer_clock, is_body_clocked, is_call, is_clock}
+use Words.{is_clock_within, is_clocked, is_clocked_on, is_equation_clocked, is_occurrence_clocked}
+use Words.{is_part_clocked, is_resolved_statement_clocked, is_same, is_single, is_single_within}
+use Words.{is_statement_clocked, is_statement_single, is_statement_unhidden, is_statement_within}
+use Words.{is_unhidden, is_variable, is_within, items-the_row-Term, left_clock, left_clocks, length}
+use Words.{list_all, list_all-append, map, name_in, named_value, node_of, occurrences, operands_in}
+use Words.{operands_of, refl, right_side, right_sides, row_of, same, site_at, slice_get}
+use Words.{statement_clock, statement_of, statement_sites, statements, static_at, subst, suc, sym}
+use Words.{texts_of, true, ungrouped, zero, zip, ℕ, ◌&&◌, ◌+◌, ◌∙◌, ◌∷◌, ◌≡◌}
 use Rattle.lb_check.proofs.clocking.ClockTests.{clock_turned, declared_is, declared_within, same_is}
-use Rattle.lb_check.proofs.clocking.{EquationClockSets.equation_stands, OwnClocks.clock_itself}
-use Rattle.lb_check.proofs.clocking.TermClockSets.{called_operands, operands_items, row_items}
-use Rattle.lb_check.proofs.clocking.TermClockSets.{term_stands}
+use Rattle.lb_check.proofs.clocking.EquationClockSets.{code_kept, rules, text_kept}
+use Rattle.lb_check.proofs.clocking.{OwnClocks.clock_itself, TermClockSets.called_operands}
+use Rattle.lb_check.proofs.clocking.TermClockSets.{operands_items, row_items, term_stands}
 use Rattle.lb_check.proofs.lists.ListPairs.{fails_at, item_there}
+use Rattle.lb_check.specs.{BrokenParts.is_side_clocked, TermClocks.is_call_clocked}
+use Rattle.lb_check.specs.{TermClocks.{is_one_clocked, stands}, declared.own_clock.Clock.Clock}
 use Rattle.lb_syntax.specs.Tree as tree
 use Rattle.lb_static.specs.declared.resolved.ResolvedStatement.TheVariants as statement
 use Rattle.lb_check.specs.Clocks as clocks
@@ -139,7 +139,8 @@ module _ (P : Program) (r : Reached) (here : ResolvedNode) (sees : SeesClocks P 
       let on_left =
       subst (λ k. (is_clocked_on P here k n e && are_on_results P node k xs e) ≡ is_call_clocked ctx
       found.0 (operands_of ctx es) lefts)
-      (sym (left_is lefts wl e)) (equation_stands found.3 site found.2 lefts wl n) in
+      (sym (left_is lefts wl e)) (rules found.3 site found.2 lefts wl n ∙ both_ways _ _
+      (code_kept found.3 site found.2 lefts wl) (text_kept found.3 site found.2 lefts wl)) in
       ap (λ (es : Exprs). is_clocked_on P here (left_k lefts) n
       (tree.Call site.callee site.arguments es)
       && are_on_results P node (left_k lefts) xs (tree.Call site.callee site.arguments es))

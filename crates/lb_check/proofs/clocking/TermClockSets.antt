@@ -1,32 +1,31 @@
 -- The clock set that the code infers for a term has the clocks on which its expression may stand.
 use Rattle.lb_check.proofs.Words
-use Words.{◌≡◌, ℕ, suc, ◌+◌, Bool, true, false, List, [], ◌∷◌, ◌++◌, length, Some, refl, ap, sym}
-use Words.{◌∙◌, arith, ◌&&◌, ◌||◌, not, is_some, option_map, nat_eq, if◌then◌else◌, list_all}
-use Words.{list_all-append, nat_tests, Count, and-true, and-false, not-true, ◌>>=◌, either_or}
-use Words.{holds, or_else, listed, Static, Expr, Node, ArrayIterator, and_first, and_second}
-use Words.{Reached, CallId, ResolvedNode, Term, Literal, Truth, Value, Group', Unary', Binary', If'}
-use Words.{Arrow', Fby', Pre', Current', When', Replicate', Index', Slice', Join', Array'}
-use Words.{AtMostOne', Nor', Call', IterateNode', IterateSymbol', Row_of-Term, end_of-Term}
-use Words.{more_of-Term, items-the_row-Term, VariableId, Program, node_named, among, variable_names}
-use Words.{node_of, statics_of, texts_of, counts_of, Texts, Counts, expr_of, row_of, exprs_of}
-use Words.{named_value, static_at, site_at, declaration_of, sampling_of, is_variable, is_call}
-use Words.{is_no_variable, is_within, are_within, is_unhidden, are_unhidden, variables, clock_of}
-use Words.{clock_or, clock_within, declared_clock, parent, is_clock, is_occurrence_clocked}
-use Words.{is_base_clocked_node, if_node, at, call_count, occurrences, occurrences_in, HasClocks}
-use Words.{name_in, clock_in, AreClockSets, IsClockSet, SeesClocks, is_clocked_on, is_single}
-use Words.{are_single, calls_single, callee_in, Base, Operand, ClockSet, NoClock, AnyClock}
-use Words.{OneClock, Declared, Context, context_of, declared_in, is_same, both, together, raised}
-use Words.{is_base_clocked, call_clock_set, infer_clock, operands_in, operand_of, operands_of}
-use Words.{waits_below}
-use Rattle.lb_static.specs.{ResolvedTerms.iterate_expr, declared.resolved.Term.Variable}
-use Rattle.lb_check.specs.{ClockRules.is_just_below, TermClocks.sampled}
-use Rattle.lb_check.specs.declared.own_clock.Clock.TheVariants.{On}
+use Words.{AnyClock, AreClockSets, Array', ArrayIterator, Arrow', AtMostOne', Base, Binary', Bool}
+use Words.{Call', CallId, ClockSet, Context, Count, Counts, Current', Declared, Expr, Fby', Group'}
+use Words.{HasClocks, If', Index', IsClockSet, IterateNode', IterateSymbol', Join', List, Literal}
+use Words.{NoClock, Node, Nor', OneClock, Operand, Pre', Program, Reached, Replicate', ResolvedNode}
+use Words.{Row_of-Term, SeesClocks, Slice', Some, Static, Term, Texts, Truth, Unary', Value}
+use Words.{VariableId, When', [], among, and-false, and-true, and_first, and_second, ap, are_single}
+use Words.{are_unhidden, are_within, arith, at, both, call_clock_set, call_count, callee_in}
+use Words.{calls_single, clock_in, clock_of, clock_or, clock_within, context_of, counts_of}
+use Words.{declaration_of, declared_clock, declared_in, either_or, end_of-Term, expr_of, exprs_of}
+use Words.{false, holds, if_node, if◌then◌else◌, infer_clock, is_base_clocked, is_base_clocked_node}
+use Words.{is_call, is_clock, is_clocked_on, is_no_variable, is_occurrence_clocked, is_same}
+use Words.{is_single, is_some, is_unhidden, is_variable, is_within, items-the_row-Term, length}
+use Words.{list_all, list_all-append, listed, more_of-Term, name_in, named_value, nat_eq, nat_tests}
+use Words.{node_named, node_of, not, not-true, occurrences, occurrences_in, operand_of, operands_in}
+use Words.{operands_of, option_map, or_else, parent, raised, refl, row_of, sampling_of, site_at}
+use Words.{static_at, statics_of, suc, sym, texts_of, together, true, variable_names, variables}
+use Words.{waits_below, ℕ, ◌&&◌, ◌++◌, ◌+◌, ◌>>=◌, ◌||◌, ◌∙◌, ◌∷◌, ◌≡◌}
 use Rattle.lb_check.proofs.clocking.{CallClockSets.call_stands, CallOperands.KnownOperands}
 use Rattle.lb_check.proofs.clocking.ClockDepths.{is_some_map, parameters_are, zip_all}
-use Rattle.lb_check.proofs.clocking.ClockTests.{clock_turned, on_one, on_two, same_is, name_among}
-use Rattle.lb_check.proofs.clocking.ClockTests.{declared_is, declared_within, has_declared}
-use Rattle.lb_check.proofs.{clocking.OwnClocks.clock_itself, definitions.NodePlaces.callee_found}
-use Rattle.lb_check.proofs.typing.FittedTypes.{unfound}
+use Rattle.lb_check.proofs.clocking.ClockTests.{among_at, clock_turned, declared_is}
+use Rattle.lb_check.proofs.clocking.ClockTests.{declared_within, has_declared, name_there, on_one}
+use Rattle.lb_check.proofs.clocking.{ClockTests.{on_two, same_is}, OwnClocks.clock_itself}
+use Rattle.lb_check.proofs.{definitions.NodePlaces.callee_found, typing.FittedTypes.unfound}
+use Rattle.lb_check.specs.{ClockRules.is_just_below, TermClocks.sampled}
+use Rattle.lb_check.specs.declared.own_clock.Clock.TheVariants.{On}
+use Rattle.lb_static.specs.{ResolvedTerms.iterate_expr, declared.resolved.Term.Variable}
 use Rattle.lb_syntax.specs.Tree as tree
 use Rattle.lb_check.specs.Clocks as clocks
 
@@ -128,7 +127,8 @@ module _ (P : Program) (here : ResolvedNode) (own : HasClocks here) where
   variable_stands x w =
       let declared = declared_clock node (name_in here x) in
       let is = declared_is here own x w in
-      let inside = name_among here own x w in (
+      let inside = among_at (variable_names (node_of here)) x.0 (name_in here x) (name_there here
+      own x w) in (
         declared_within here own x w,
         has_declared here own x w ∙ ap Some (sym is),
         λ k n. ap (λ b. (not b || is_clock k declared) && true) inside
@@ -346,8 +346,7 @@ module _ (P : Program) (r : Reached) (here : ResolvedNode) (sees : SeesClocks P 
       let single : nat_eq callee.0.outputs 1 ≡ true =
       sym (ap (holds (λ n. nat_eq n.outputs 1)) callee.1) ∙ one in
       let outputs : callee.0.outputs ≡ 1 = grind (arith, nat_tests) in
-      let stands =
-      call_stands (known_row c row callee.0 callee.1 w u all) site callee.2 outputs in
+      let stands = call_stands (known_row c row callee.0 callee.1 w u all) site callee.2 outputs in
       rw (callee.1, row_items texts m row, operands_items ctx m row) stands
 
   -- an iterated node has the clock set that the code finds

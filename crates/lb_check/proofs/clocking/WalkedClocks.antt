@@ -1,27 +1,27 @@
 -- What a walk over a term finds of its clocks, from what it finds of the operands.
 use Rattle.lb_check.proofs.Words
-use Words.{◌≡◌, subst, ℕ, ◌⊎◌, inl, inr, Bool, Box, Global, refl, StaticId, IsPair, Context, both}
-use Words.{infer_clock, ClockSet, AnyClock, List, Vec, ap, ◌∙◌, holds, IsRow, CallId, VariableId}
-use Words.{items-the_row-Term, items_hidden-the_row-Term-0, is_equation_clocked, operands_in}
-use Words.{operands_of, row_clock_set, ◌+◌, ◌-◌, ◌<◌, ◌≤◌, [], ◌∷◌, ◌++◌, length, drop, get_or}
-use Words.{Option, ap₂, sym, reverse, append-nil, reverse-append, reverse-reverse, ArrayIterator}
-use Words.{BinaryOperator, UnaryOperator, IterateNode, IterateSymbol, Row_of-Term, end_of-Term}
-use Words.{more_of-Term, variable_of, operand_of, IsLeaf, IsRowWalked, known_among, known_operands}
-use Words.{OneClock, Operand, take, map, flat_map, Some, None, arith, slice_get, append_assoc}
-use Words.{drop_all, drop_more, map-append, listed, FoundCall, FoundTerm, IsPlaced, part, row_term}
-use Words.{called, with_terms, placed_terms, placed_row, placed_arguments, placed_all, placed_each}
-use Words.{placed_side, placed_call, side_clocks, determined_clock, nested_call, side_call}
-use Words.{left_clock, Term, Literal, Truth, Value}
-use Rattle.std.proofs.lemmas.{List.{drop_at, take_at}, Option.slice_get_cases}
-use Rattle.lb_static.specs.declared.resolved.Term.{If, Call, Variable, Group, Unary, Pre, Current}
-use Rattle.lb_static.specs.declared.resolved.Term.{When, Replicate, Index, Slice, Array, AtMostOne}
-use Rattle.{lb_static.specs.declared.resolved.Term.Nor, lb_check.specs.PlacedClocks.FoundNode}
-use Rattle.lb_check.specs.PlacedClocks.{with_term, operand_clock, call_clocks}
-use Rattle.lb_check.specs.{TermClocks.{unary_clock_set, is_call_clocked}, WalkedClocks.IsWalked}
-use Rattle.lb_check.specs.{WalkedClocks.known_in, declared.own_clock.Clock.Clock}
+use Words.{AnyClock, ArrayIterator, BinaryOperator, Bool, Box, CallId, ClockSet, Context, FoundCall}
+use Words.{FoundTerm, Global, IsLeaf, IsPair, IsPlaced, IsRow, IsRowWalked, IterateNode}
+use Words.{IterateSymbol, List, Literal, None, OneClock, Operand, Option, Row_of-Term, Some}
+use Words.{StaticId, Term, Truth, UnaryOperator, Value, VariableId, Vec, [], ap, append-nil}
+use Words.{append_assoc, ap₂, arith, both, called, determined_clock, drop, drop_all, drop_more}
+use Words.{end_of-Term, flat_map, get_or, holds, infer_clock, inl, inr, is_equation_clocked}
+use Words.{items-the_row-Term, items_hidden-the_row-Term-0, known_among, known_operands, left_clock}
+use Words.{length, listed, map, map-append, more_of-Term, nested_call, operand_of, operands_in}
+use Words.{operands_of, part, placed_all, placed_arguments, placed_call, placed_each, placed_row}
+use Words.{placed_side, placed_terms, refl, reverse, reverse-append, reverse-reverse, row_clock_set}
+use Words.{row_term, side_call, side_clocks, slice_get, subst, sym, variable_of, with_terms, ℕ}
+use Words.{◌++◌, ◌+◌, ◌-◌, ◌<◌, ◌∙◌, ◌∷◌, ◌≡◌, ◌≤◌, ◌⊎◌}
 use Rattle.lb_check.proofs.{clocking.TermClockSets.operands_items, lists.ListPairs.all_last}
 use Rattle.lb_check.proofs.lists.ListPairs.{further, more_last, none_last}
 use Rattle.lb_check.proofs.typing.TypeRows.{IsSinglePart, row_in, row_is}
+use Rattle.lb_check.specs.PlacedClocks.{FoundNode, call_clocks, operand_clock, with_term}
+use Rattle.lb_check.specs.{TermClocks.{is_call_clocked, unary_clock_set}, WalkedClocks.IsWalked}
+use Rattle.lb_check.specs.{WalkedClocks.known_in, declared.own_clock.Clock.Clock}
+use Rattle.lb_static.specs.declared.resolved.Term.{Array, AtMostOne, Call, Current, Group, If}
+use Rattle.lb_static.specs.declared.resolved.Term.{Index, Nor, Pre, Replicate, Slice, Unary}
+use Rattle.lb_static.specs.declared.resolved.Term.{Variable, When}
+use Rattle.std.proofs.lemmas.Option.{slice_get_cases}
 
 -- The clock set of a term, from those of its one, two or three operands.
 
@@ -187,8 +187,7 @@ module _ (ctx : Context) where
       known_in ctx row ≡ known_among ctx (items-the_row-Term n row)
   unfolding known_operands
   known_items n end_of-Term = refl
-  known_items n (more_of-Term e rest) =
-      ap (λ l. known_operands ctx e ++ l) (known_items _ rest)
+  known_items n (more_of-Term e rest) = ap (λ l. known_operands ctx e ++ l) (known_items _ rest)
 
   hidden : (t : Term) (es : Vec Term Global) → items-the_row-Term _ (row_in t).1 ≡ es.items →
       known_in ctx (row_in t).1 ≡ known_among ctx es.items
@@ -205,19 +204,14 @@ module _ (ctx : Context) where
 
   pub row_known : (t : Term) (es : Vec Term Global) → IsPlainRow t es →
       known_operands ctx t ≡ known_among ctx es.items
-  row_known t es is =
-      row_in_known t es is ∙ hidden t es (row_is t es (wide_row t es is))
+  row_known t es is = row_in_known t es is ∙ hidden t es (row_is t es (wide_row t es is))
 
-  called_known : (c : CallId) (es : Vec Term Global) →
+  pub called_known : (c : CallId) (es : Vec Term Global) →
       known_operands ctx (Call c es) ≡ operands_of ctx es.items ++ known_among ctx es.items
   unfolding known_operands
   called_known c es =
       let same = items_hidden-the_row-Term-0 es in
       ap₂ (λ l m. l ++ m) (same_operands ctx (Call c es) es same) (hidden (Call c es) es same)
-
-  pub call_known : (t : Term) (c : CallId) (es : Vec Term Global) → t ≡ Call c es →
-      known_operands ctx t ≡ operands_of ctx es.items ++ known_among ctx es.items
-  call_known t c es e = ap (known_operands ctx) e ∙ called_known c es
 
   -- ## The operands that a walk adds
 
@@ -322,7 +316,8 @@ module _ (ctx : Context) where
               ∙ sym (stands_row ctx t es (inr (inr (inr (inl (c, is)))))),
           further before mid after os known w.1 a
               ∙ ap (λ l. before ++ reverse (l ++ known)) w.0
-              ∙ ap (λ l. before ++ reverse l) (sym (call_known t c es is)),
+              ∙ ap (λ l. before ++ reverse l) (sym (ap (known_operands ctx) is ∙ called_known c
+              es)),
         )
 
   -- ## Rows
@@ -330,8 +325,7 @@ module _ (ctx : Context) where
   module _ (all : List Term) (before : List Operand) where
     -- the last `seen` terms are walked, such as the last two of `[a, b, c]`
     abbrev pub AreWalked : ℕ → (now os : List Operand) → Type 0
-    AreWalked seen now os =
-        IsRowWalked ctx (drop (length all - seen) all) before now (reverse os)
+    AreWalked seen now os = IsRowWalked ctx (drop (length all - seen) all) before now (reverse os)
 
     pub row_start : (os : List Operand) → os ≡ [] → AreWalked 0 before os
     row_start os e =
@@ -388,8 +382,7 @@ clocks_among ts = map (λ t. t.clock) ts
 -- terms that are found after `f` add their clocks and their calls
 pub all_found : (f : FoundNode) (ts : List FoundTerm) →
     with_terms f ts ≡ both_found (f.terms ++ clocks_among ts) (f.calls ++ calls_among ts)
-all_found f [] =
-    ap₂ both_found (sym (append-nil f.terms)) (sym (append-nil f.calls))
+all_found f [] = ap₂ both_found (sym (append-nil f.terms)) (sym (append-nil f.calls))
 all_found f (t ∷ ts) =
     let calls = listed (λ c. c ∷ []) t.call in
     all_found (with_term f t) ts
@@ -483,12 +476,6 @@ pub placed_noted :
 placed_noted own t ts f noted g known left n p = λ others is.
     let r = p others is in (r.0, r.1 ∙ ap (λ h. with_terms h ts) n)
 
--- a term without operands is placed by noting it
-pub placed_leaf :
-    (t : FoundTerm) (f noted : FoundNode) (known : List Operand) → noted ≡ with_term f t →
-    IsPlaced [] (t ∷ []) f noted known known
-placed_leaf t f noted known n = λ others is. (is, n)
-
 pub placed_both :
     (xs ys : List Operand) (ts us : List FoundTerm) (f g h : FoundNode)
     (known mid left : List Operand) → IsPlaced xs ts f g known mid → IsPlaced ys us g h mid left →
@@ -497,17 +484,6 @@ placed_both xs ys ts us f g h known mid left p q = λ others is.
     let r = p (ys ++ others) (is ∙ append_assoc xs ys others) in
     let s = q others r.0 in
     (s.0, s.1 ∙ ap (λ k. with_terms k us) r.1 ∙ sym (more_terms f ts us))
-
--- the operands of a call are the first `n` known ones, and those of the terms within them follow
-pub taken_first : (os xs others known : List Operand) (n : ℕ) → length os ≡ n →
-    known ≡ (os ++ xs) ++ others → take n (drop 0 known) ≡ os
-taken_first os xs others known n e is =
-    ap (take n) (is ∙ append_assoc os xs others) ∙ take_at os (xs ++ others) n e
-
-pub left_past : (os xs others known : List Operand) (n : ℕ) → length os ≡ n →
-    known ≡ (os ++ xs) ++ others → drop n known ≡ xs ++ others
-left_past os xs others known n e is =
-    ap (drop n) (is ∙ append_assoc os xs others) ∙ drop_at os (xs ++ others) n e
 
 -- ## Terms from a place on
 
@@ -518,10 +494,6 @@ abbrev pub AreLeft :
 AreLeft own rest all later f now known left =
     (others : List Operand) → known ≡ own ++ others →
     (left ≡ rest ++ others) × (with_terms f all ≡ with_terms now later)
-
-pub left_start : (own : List Operand) (all : List FoundTerm) (f : FoundNode)
-    (known : List Operand) → AreLeft own own all all f f known known
-left_start own all f known = λ others is. (is, refl)
 
 pub left_more :
     (own rest xs rest' : List Operand) (all later ts later' : List FoundTerm)

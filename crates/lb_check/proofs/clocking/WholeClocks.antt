@@ -1,37 +1,34 @@
 -- The rules of clocks of a whole program, and the clocks that break them.
 use Rattle.lb_check.proofs.Words
-use Words.{◌≡◌, ap₂, ℕ, Bool, true, Some, None, ap, sym, ◌∙◌, subst, ◌&&◌, option_map, slice_get}
-use Words.{and-false, slice_get-map, slice_get_within, get_or_from_slice_get, holds, Program}
-use Words.{are_distinct, keeps_names, variable_names, IsReached, source_names, trees, IsResolved}
-use Words.{node_of, NodeId, Reached, ResolvedNode, ResolvedStatement, Part, first_broken}
-use Words.{are_declared_clocks, IsDeclaredClock, IsIllClocked, is_clocked_at, HasClocks, context_of}
-use Words.{is_body_clocked, is_resolved_statement_clocked, suc, ◌+◌, ◌-◌, ◌<◌, ◌≤◌, false, List, []}
-use Words.{◌∷◌, ◌++◌, take, drop, map, length, Option, refl, arith, is_some, nat_lt, if◌then◌else◌}
-use Words.{lt-ltb, le-ltb, length-append, append_assoc, Name, Declaration, Node, all_at, item_at}
-use Words.{variables, statics_of, declaration_of, Variable, at_place, variable_clock, IsCircle}
-use Words.{waits_below, is_clocked_by, list_all, ◌>>=◌, all_some, both_ways, and_first, CallId}
-use Words.{Specialization, Table, instance_of, Instance, Root, Child, Site, callee_of, instances}
-use Words.{node_named, node_sites, static_value, id_at, tree_at, callee_in, texts_of}
-use Words.{is_statement_unhidden, is_clocked, IsJudged, SeesClocks, is_statement_single}
-use Words.{is_part_clocked, is_typed, same_Some, bind_some, counts_of, is_call}
-use Words.{find, not}
-use Rattle.{std.proofs.lemmas.Bool.and_left, lb_check.specs.BrokenParts.awaitable}
-use Rattle.std.proofs.lemmas.Option.{slice_get_past}
-use Rattle.lb_check.specs.{BrokenParts.is_declared_clock, FoundParts.IsPartIllClocked}
-use Rattle.lb_check.specs.FoundParts.{IsClockedPart, broken_part}
-use Rattle.lb_check.specs.NodeClocks.{is_node_clocked, are_clocked_at}
-use Rattle.lb_check.proofs.clocking.ClockDepths.{first_names}
-use Rattle.lb_check.proofs.definitions.NodePlaces.{callee_found, distinct_variables, node_resolved}
-use Rattle.lb_check.proofs.definitions.NodePlaces.{site_found}
-use Rattle.lb_check.proofs.definitions.BrokenRules.{find_mapped, not_all}
-use Rattle.lb_check.specs.declared.part.IllFormed.{IllFormed}
-use Rattle.lb_check.proofs.lists.ListPairs.{all_pass, fails_there, not_all_pass, fails_at}
-use Rattle.lb_check.proofs.lists.ListPairs.{found_item, get_dropped, get_taken}
-use Rattle.lb_check.proofs.typing.FittedTypes.{node_at}
-use Rattle.lb_check.proofs.clocking.StatementClockSets.{node_clocked, statement_broken}
-use Rattle.lb_check.proofs.typing.{FittedTypes.specialized_instance, SingleCalls.single_statements}
+use Words.{Bool, CallId, Child, Declaration, HasClocks, Instance, IsCircle, IsDeclaredClock}
+use Words.{IsIllClocked, IsJudged, IsReached, IsResolved, List, Name, Node, NodeId, None, Option}
+use Words.{Part, Program, Reached, ResolvedNode, ResolvedStatement, Root, SeesClocks, Site, Some}
+use Words.{Specialization, Table, Variable, [], all_at, all_some, and-false, and_first, ap}
+use Words.{append_assoc, ap₂, are_declared_clocks, are_distinct, arith, at_place, bind_some}
+use Words.{both_ways, callee_in, callee_of, context_of, counts_of, declaration_of, drop, false}
+use Words.{find, first_broken, get_or_from_slice_get, holds, id_at, if◌then◌else◌, instance_of}
+use Words.{instances, is_body_clocked, is_call, is_clocked, is_clocked_at, is_clocked_by}
+use Words.{is_part_clocked, is_resolved_statement_clocked, is_some, is_statement_single}
+use Words.{is_statement_unhidden, is_typed, item_at, keeps_names, le-ltb, length, length-append}
+use Words.{list_all, lt-ltb, map, nat_lt, node_named, node_of, node_sites, not, option_map, refl}
+use Words.{same_Some, slice_get, slice_get-map, slice_get_within, source_names, static_value}
+use Words.{statics_of, subst, suc, sym, take, texts_of, tree_at, trees, true, variable_clock}
+use Words.{variable_names, variables, waits_below, ℕ, ◌&&◌, ◌++◌, ◌+◌, ◌-◌, ◌<◌, ◌>>=◌, ◌∙◌, ◌∷◌}
+use Words.{◌≡◌, ◌≤◌}
+use Rattle.lb_check.proofs.clocking.{ClockDepths.first_names, StatementClockSets.node_clocked}
+use Rattle.lb_check.proofs.clocking.StatementClockSets.{statement_broken}
+use Rattle.lb_check.proofs.definitions.{BrokenRules.{find_mapped, not_all}, NodePlaces.callee_found}
+use Rattle.lb_check.proofs.definitions.NodePlaces.{distinct_variables, node_resolved, site_found}
+use Rattle.lb_check.proofs.lists.ListPairs.{all_pass, fails_at, fails_there, found_item}
+use Rattle.lb_check.proofs.lists.ListPairs.{get_dropped, get_taken, not_all_pass}
+use Rattle.lb_check.proofs.typing.FittedTypes.{node_at, specialized_instance}
+use Rattle.lb_check.proofs.typing.SingleCalls.{single_statements}
 use Rattle.lb_check.proofs.typing.Specializations.{all_specializations}
 use Rattle.lb_check.proofs.typing.TypedSpecializations.{instances_typed}
+use Rattle.lb_check.specs.{BrokenParts.{awaitable, is_declared_clock}, FoundParts.IsClockedPart}
+use Rattle.lb_check.specs.{FoundParts.{IsPartIllClocked, broken_part}, NodeClocks.are_clocked_at}
+use Rattle.lb_check.specs.{NodeClocks.is_node_clocked, declared.part.IllFormed.IllFormed}
+use Rattle.std.proofs.lemmas.{Bool.and_left, Option.slice_get_past}
 use Rattle.lb_check.specs.declared.part.Part.TheVariants as part
 use Rattle.lb_check.proofs.clocking.ClockDepths as clocked
 

@@ -1,24 +1,24 @@
 -- The first rule that a program breaks, and the node that breaks it.
 use Rattle.lb_check.proofs.Words
-use Words.{is_some, not, list_all, or_else, E9, E10, unless, elaborated_program, IsLawful, Program}
-use Words.{instances, keeps_names, static_refusal, instantiation_refusal, Elaboration, Reached}
-use Words.{Table, check_refusal, is_clocked, is_defined, IsJudged, is_typed, ℕ, zero, suc, ◌<◌}
-use Words.{cond, List, [], ◌∷◌, map, ap, ◌∙◌, arith, IfSome, find, option_map, slice_get}
-use Words.{slice_get-map, not-false, not-true, holds, In, listed, Name, Node, specialized_at}
-use Words.{Instance, Path, tree_at, NodeId, Specialization, Part, is_part_typed, IfOk, Result, ◌≡◌}
-use Words.{Bool, true, false, Option, Some, None, refl, sym, subst}
-use Words.{Vec, Global, NodeTypes, is_specialization_typed}
-use Rattle.std.specs.Prelude.{IfErr, is_ok}
-use Rattle.{std.{specs.Prelude.Ok, proofs.Common.Err}, lb_syntax.specs.Refusals.{Refusal, E4, E7}}
-use Rattle.{lb_syntax.specs.Refusals.{E8, E11}, lb_static.specs.Elaborated.IsElaborated}
-use Rattle.lb_static.specs.{Instantiation.has_no_parameters, Names.is_well_founded}
-use Rattle.lb_check.specs.BrokenRules.{IsBroken, IsBrokenIn}
-use Rattle.lb_check.specs.{FoundParts.{AreJudgedTypes, IsIllTypedAt}, PlacedTypes.AreFound}
-use Rattle.lb_check.specs.declared.{part.IllFormed.IllFormed, judged_types.IllTyped.IllTyped}
-use Rattle.lb_check.proofs.typing.Specializations.{has_instance}
+use Words.{Bool, E10, E9, Elaboration, Global, IfOk, IfSome, In, Instance, IsJudged, IsLawful, List}
+use Words.{Name, Node, NodeId, NodeTypes, None, Option, Part, Path, Program, Reached, Result, Some}
+use Words.{Specialization, Table, Vec, [], ap, arith, check_refusal, cond, elaborated_program}
+use Words.{false, find, holds, instances, instantiation_refusal, is_clocked, is_defined}
+use Words.{is_part_typed, is_some, is_specialization_typed, is_typed, keeps_names, list_all, listed}
+use Words.{map, not, not-false, not-true, option_map, or_else, refl, slice_get, slice_get-map}
+use Words.{specialized_at, static_refusal, subst, suc, sym, tree_at, true, unless, zero, ℕ, ◌<◌}
+use Words.{◌∙◌, ◌∷◌, ◌≡◌}
 use Rattle.lb_check.proofs.lists.ListPairs.{all_pass, not_all_pass}
+use Rattle.lb_check.proofs.typing.Specializations.{has_instance}
 use Rattle.lb_check.proofs.typing.TypedSpecializations.{instances_typed, specialization_part}
 use Rattle.lb_check.proofs.typing.TypedSpecializations.{specialization_typed}
+use Rattle.lb_check.specs.{BrokenRules.{IsBroken, IsBrokenIn}, FoundParts.AreJudgedTypes}
+use Rattle.lb_check.specs.{FoundParts.IsIllTypedAt, PlacedTypes.AreFound}
+use Rattle.lb_check.specs.declared.{judged_types.IllTyped.IllTyped, part.IllFormed.IllFormed}
+use Rattle.lb_static.specs.{Elaborated.IsElaborated, Instantiation.has_no_parameters}
+use Rattle.{lb_static.specs.Names.is_well_founded, lb_syntax.specs.Refusals.{E11, E4, E7, E8}}
+use Rattle.{lb_syntax.specs.Refusals.Refusal, std.{proofs.Common.Err, specs.Prelude.{IfErr, Ok}}}
+use Rattle.std.specs.Prelude.{is_ok}
 
 -- The first of the rules of types, clocks and definitions that an elaborated program breaks.
 
@@ -84,24 +84,15 @@ module _ (P : Program) where
   abbrev clocked : Bool
   clocked = list_all (λ here. is_clocked P here.node) (instances P)
 
-  abbrev defined : Bool
+  abbrev pub defined : Bool
   defined = list_all (λ here. is_defined P here.node) (instances P)
 
   abbrev first_of_three : (a b c : Bool) → Option Refusal
   first_of_three a b c = or_else (unless a E9) (or_else (unless b E10) (unless c E11))
 
-  by_tests : (a b c : Bool) → typed ≡ a → clocked ≡ b → defined ≡ c →
+  pub by_tests : (a b c : Bool) → typed ≡ a → clocked ≡ b → defined ≡ c →
       check_refusal P ≡ first_of_three a b c
   by_tests a b c e f g = rw (e, f, g) refl
-
-  pub not_typed : typed ≡ false → check_refusal P ≡ Some E9
-  not_typed e = by_tests false clocked defined e refl refl
-
-  pub not_clocked : typed ≡ true → clocked ≡ false → check_refusal P ≡ Some E10
-  not_clocked e f = by_tests true false defined e f refl
-
-  pub not_defined : typed ≡ true → clocked ≡ true → defined ≡ false → check_refusal P ≡ Some E11
-  not_defined e f g = by_tests true true false e f g
 
   pub all_kept : typed ≡ true → clocked ≡ true → defined ≡ true → check_refusal P ≡ None
   all_kept e f g = by_tests true true true e f g
@@ -176,13 +167,6 @@ pub types_found : (r : Reached) (t : Table) (found : Result (Option (Vec NodeTyp
     → AreJudgedTypes r t found → IfOk found (AreFound r t)
 types_found r t (Ok types) told = told.1
 types_found r t (Err f) told = tt
-
-pub told_ok : {A E : Type 0} (r : Result A E) (x : A) (Q : A → Type 0) → IfOk r Q → r ≡ Ok x → Q x
-told_ok r x Q q is = subst (λ r. IfOk r Q) is q
-
-pub told_err : {A E : Type 0} (r : Result A E) (x : E) (Q : E → Type 0) → IfErr r Q → r ≡ Err x →
-    Q x
-told_err r x Q q is = subst (λ r. IfErr r Q) is q
 
 pub told : {A : Type 0} (o : Option A) (x : A) (Q : A → Type 0) → IfSome o Q → o ≡ Some x → Q x
 told None id Q q e = absurd cc

@@ -1,21 +1,19 @@
 -- The numbers of the calls in the text of a node, and the left variables of each.
 use Rattle.lb_check.proofs.Words
-use Words.{◌&&◌, nat_eq, find, nat_tests, eqb-true, and_from, same_Some, and-false, Every, In}
-use Words.{listed, Node_named, Symbol, Expr, Group, Iterate, Node, Statement, Equation, Assertion}
-use Words.{same_number, and_first, and_second, Program, sites, statement_sites, right_side}
-use Words.{left_names, Clock, ungrouped, is_site, call_at, lefts_at, Occurrence, at, occurrences}
-use Words.{statement_clock, right_sides, statements, node_occurrences, Name, Exprs, Site, sites_in}
-use Words.{numbered_sites, occurrences_each, occurrences_in, cond, ◌≡◌, ◌⊎◌, inl, inr, ℕ, ◌+◌, ◌<◌}
-use Words.{◌≤◌, Bool, true, false, Option, Some, None, List, [], ◌∷◌, length, refl, ap, sym, ◌∙◌}
-use Words.{arith}
-use Rattle.{std.proofs.Common.zip, lb_check.specs.{Clocks.Base, Needs.is_right_side}}
-use Rattle.lb_check.proofs.lists.Members.{Every-at, to_pieces, Every-map, Every-both}
-use Rattle.lb_static.proofs.TestedItems.{found_passes}
+use Words.{Assertion, Bool, Clock, Equation, Every, Expr, Exprs, Group, In, Iterate, List, Name}
+use Words.{Node, Node_named, None, Occurrence, Option, Program, Site, Some, Statement, Symbol, []}
+use Words.{and-false, and_first, and_from, and_second, ap, arith, at, call_at, cond, eqb-true}
+use Words.{false, find, inl, inr, is_site, left_names, lefts_at, length, listed, nat_eq, nat_tests}
+use Words.{node_occurrences, numbered_sites, occurrences, occurrences_in, refl, right_side}
+use Words.{right_sides, same_Some, same_number, sites, sites_in, statement_clock, statement_sites}
+use Words.{statements, sym, true, ungrouped, ℕ, ◌&&◌, ◌+◌, ◌<◌, ◌∙◌, ◌∷◌, ◌≡◌, ◌≤◌, ◌⊎◌}
+use Rattle.lb_check.proofs.lists.Members.{Every-at, Every-both, Every-map, to_pieces}
 use Rattle.lb_check.proofs.programs.InstancePaths.{find_in, numbered_from}
-use Rattle.lb_check.proofs.programs.OccurrenceSites.{site_of_call, numbered_below, find_here}
-use Rattle.lb_check.proofs.programs.OccurrenceSites.{find_next, calls_of, node_calls, AreCalls}
-use Rattle.lb_check.proofs.programs.OccurrenceSites.{body_calls, body_occurrences, calls_each}
-use Rattle.lb_check.proofs.programs.OccurrenceSites.{calls_in, own_site, statement_calls}
+use Rattle.lb_check.proofs.programs.OccurrenceSites.{AreCalls, calls_in, calls_of, find_here}
+use Rattle.lb_check.proofs.programs.OccurrenceSites.{find_next, node_calls, numbered_below}
+use Rattle.lb_check.proofs.programs.OccurrenceSites.{own_site, site_of_call, statement_calls}
+use Rattle.lb_check.specs.{Clocks.Base, Needs.is_right_side}
+use Rattle.{lb_static.proofs.TestedItems.found_passes, std.proofs.Common.zip}
 
 -- The call of a number in the text of a node, and the left variables of the equation whose whole
 -- right side is this call.
@@ -25,8 +23,7 @@ pub found_in : {A : Type 0} (test : A → Bool) (xs : List A) (x : A) → find t
     In x xs × (test x ≡ true)
 found_in test xs x e = (find_in test xs x e, found_passes test xs x e)
 
-zip_second : {A B : Type 0} (xs : List A) (ys : List B) (t : A × B) → In t (zip xs ys) →
-    In t.1 ys
+zip_second : {A B : Type 0} (xs : List A) (ys : List B) (t : A × B) → In t (zip xs ys) → In t.1 ys
 zip_second {A = A} {B = B} (x ∷ xs) (y ∷ ys) t (inl e) = inl (ap (λ (u : A × B). u.1) e)
 zip_second (x ∷ xs) (y ∷ ys) t (inr i) = inr (zip_second xs ys t i)
 zip_second _ _ t i = absurd i
@@ -35,8 +32,7 @@ zip_second _ _ t i = absurd i
 
 module _ (P : Program) (here : Node) where
   -- an expression is the first of its occurrences
-  pub leads : (k : Clock) (n : ℕ) (e : Expr) →
-      In (at k n (ungrouped e)) (occurrences P here k n e)
+  pub leads : (k : Clock) (n : ℕ) (e : Expr) → In (at k n (ungrouped e)) (occurrences P here k n e)
   leads k n (Group a) = leads k n a
   leads k n (Iterate it (Node_named f statics) m es) = inl refl
   leads k n (Iterate it (Symbol op) m es) = inl refl
@@ -44,18 +40,12 @@ module _ (P : Program) (here : Node) where
 
   -- ## The call of a number
 
-  -- each call is the call of its number
-  pub call_at_is :
-      Every (λ o. is_site o.expr ≡ true → call_at P here o.calls_before ≡ Some o)
-      (node_occurrences P here)
-  call_at_is = (node_calls P here).found
-
   pub call_of :
       (o : Occurrence) → In o (node_occurrences P here) → is_site o.expr ≡ true →
       call_at P here o.calls_before ≡ Some o
   call_of o i is =
       Every-at (λ o. is_site o.expr ≡ true → call_at P here o.calls_before ≡ Some o)
-      (node_occurrences P here) o call_at_is i is
+      (node_occurrences P here) o ((node_calls P here).found) i is
 
   -- ## Right sides that are calls
 
@@ -73,8 +63,7 @@ module _ (P : Program) (here : Node) where
       (record { clock = refl; expr = refl }, own_rights (n + length (statement_sites s)) ss)
 
   -- a statement of the node has its own right side, on its own clock
-  pub own_right :
-      (t : Statement × Occurrence) → In t (statements P here) → IsOwnRight t
+  pub own_right : (t : Statement × Occurrence) → In t (statements P here) → IsOwnRight t
   own_right t i = Every-at IsOwnRight (statements P here) t (own_rights 0 here.body) i
 
   numbers_from : (n : ℕ) (ss : List Statement) →
@@ -112,8 +101,7 @@ module _ (P : Program) (here : Node) where
       (numbered_statements n ss)
   right_found n [] = tt
   right_found n (s ∷ ss) =
-      let first : Statement × Occurrence =
-      (s, at (statement_clock P here s) n (right_side s)) in
+      let first : Statement × Occurrence = (s, at (statement_clock P here s) n (right_side s)) in
       let rest = numbered_statements (n + length (statement_sites s)) ss in (
         λ is. find_here (λ u. is_right_side n u.1) first rest (and_from _ _ (same_number n) is),
         Every-map _ _
@@ -194,7 +182,7 @@ AreFrom n os = Every (λ o. is_site o.expr ≡ true → n ≤ o.calls_before) os
 abbrev pub AreBelow : ℕ → List Occurrence → Type 0
 AreBelow n os = Every (λ o. is_site o.expr ≡ true → o.calls_before < n) os
 
-from_calls : (n : ℕ) (os : List Occurrence) (ss : List Site) → AreCalls n os ss → AreFrom n os
+pub from_calls : (n : ℕ) (os : List Occurrence) (ss : List Site) → AreCalls n os ss → AreFrom n os
 from_calls n os ss h =
     Every-map
     (λ o. (s : Site) → own_site o.expr ≡ Some s → In (o.calls_before, s) (numbered_sites n ss))
@@ -212,12 +200,6 @@ below_calls n os ss h =
     numbered_below n ss o.calls_before s.0 (f s.0 s.1)) os h.stand
 
 module _ (P : Program) (here : Node) where
-  -- the calls of arguments, each on a clock of its own, have numbers from `n` on
-  pub each_from : (ks : List Clock) (n : ℕ) (es : Exprs) →
-      AreFrom n (occurrences_each P here ks n es)
-  each_from ks n es =
-      from_calls n (occurrences_each P here ks n es) (sites_in es) (calls_each P here ks n es)
-
   pub row_from : (k : Clock) (n : ℕ) (es : Exprs) → AreFrom n (occurrences_in P here k n es)
   row_from k n es =
       from_calls n (occurrences_in P here k n es) (sites_in es) (calls_in P here k n es)
@@ -229,10 +211,6 @@ module _ (P : Program) (here : Node) where
   statement_below n s =
       below_calls n (occurrences P here (statement_clock P here s) n (right_side s))
       (statement_sites s) (statement_calls P here n s)
-
-  pub statements_from : (n : ℕ) (ss : List Statement) →
-      AreFrom n (body_occurrences P here n ss)
-  statements_from n ss = from_calls n (body_occurrences P here n ss) _ (body_calls P here n ss)
 
   -- ## Left variables
 
@@ -265,16 +243,14 @@ module _ (P : Program) (here : Node) where
   pub first_lefts : (n : ℕ) (s : Statement) (ss : List Statement) (call : ℕ) →
       call < n + length (statement_sites s) →
       own_lefts n (right_side s) (left_names s) call ≡ lefts_among n (s ∷ ss) call
-  first_lefts n s ss call lt =
-      grind (arith, none_right call (n + length (statement_sites s)) ss lt)
+  first_lefts n s ss call lt = grind (arith, none_right call (n + length (statement_sites s)) ss lt)
 
   -- the left variables of a call within a later statement are those among the later ones
   pub later_lefts : (n : ℕ) (s : Statement) (ss : List Statement) (call : ℕ) →
       n + length (statement_sites s) ≤ call →
       lefts_among (n + length (statement_sites s)) ss call ≡ lefts_among n (s ∷ ss) call
   later_lefts n s ss call le =
-      let first : Statement × Occurrence =
-      (s, at (statement_clock P here s) n (right_side s)) in
+      let first : Statement × Occurrence = (s, at (statement_clock P here s) n (right_side s)) in
       let rest = numbered (n + length (statement_sites s)) ss in
       sym (ap (listed (λ s. left_names s.0))
       (find_next (λ s. is_right_side call s.1) first rest

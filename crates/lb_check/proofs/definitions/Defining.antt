@@ -1,14 +1,13 @@
 -- The left sides and terms of a node from a place on.
-use Rattle.lb_check.proofs.Words.{◌≡◌, ◌⊎◌, inl, inr, ℕ, ◌+◌, ◌<◌, Bool, List, length, drop, get_or}
-use Rattle.lb_check.proofs.Words.{Vec, Global, refl, ap, ◌∙◌, ◌&&◌, if◌then◌else◌, ◌==◌, list_all}
-use Rattle.lb_check.proofs.Words.{drop_more, ArrayIterator, BinaryOperator, Reached, CallId}
-use Rattle.lb_check.proofs.Words.{ResolvedNode, StaticId, VariableId, ResolvedStatement, Term}
-use Rattle.lb_check.proofs.Words.{IterateNode, IterateSymbol, Row_of-Term, end_of-Term}
-use Rattle.lb_check.proofs.Words.{more_of-Term, items-the_row-Term, items_hidden-the_row-Term-0}
-use Rattle.lb_check.proofs.Words.{count_left, count_statement, count_statements, calls_function}
-use Rattle.lb_static.specs.declared.resolved.Term.{Array, AtMostOne, Nor, Call}
+use Rattle.lb_check.proofs.Words.{ArrayIterator, BinaryOperator, Bool, CallId, Global, IterateNode}
+use Rattle.lb_check.proofs.Words.{IterateSymbol, List, Reached, ResolvedNode, ResolvedStatement}
+use Rattle.lb_check.proofs.Words.{Row_of-Term, StaticId, Term, VariableId, Vec, ap, calls_function}
+use Rattle.lb_check.proofs.Words.{count_left, count_statement, count_statements, drop, drop_more}
+use Rattle.lb_check.proofs.Words.{end_of-Term, get_or, if◌then◌else◌, inl, inr, items-the_row-Term}
+use Rattle.lb_check.proofs.Words.{items_hidden-the_row-Term-0, length, list_all, more_of-Term, refl}
+use Rattle.lb_check.proofs.{Words.{ℕ, ◌&&◌, ◌+◌, ◌<◌, ◌==◌, ◌∙◌, ◌≡◌, ◌⊎◌}, typing.TypeRows.row_in}
 use Rattle.lb_check.specs.NodeDefinitions.{is_memoryless, is_row_memoryless}
-use Rattle.lb_check.proofs.typing.TypeRows.{row_in}
+use Rattle.lb_static.specs.declared.resolved.Term.{Array, AtMostOne, Call, Nor}
 
 pub count_next : (k : ℕ) (xs : List VariableId) (i : ℕ) (d : VariableId) → i < length xs
     → count_left k (drop i xs) ≡ (if (get_or xs i d).0 == k then 1 else 0) + count_left k

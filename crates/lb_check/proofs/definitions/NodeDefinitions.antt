@@ -1,29 +1,28 @@
 -- A node with resolved names keeps the rules of definitions exactly where the code finds it.
 use Rattle.lb_check.proofs.Words
-use Words.{◌≡◌, ℕ, ◌+◌, ◌-◌, ◌<◌, ◌≤◌, Bool, true, false, cond, List, [], ◌∷◌, ◌++◌, length, map}
-use Words.{Option, Some, None, refl, ap, sym, ◌∙◌, subst, arith, ◌&&◌, ◌||◌, not, nat_lt, nat_eq}
-use Words.{option_map, slice_get, if◌then◌else◌, list_all, bytes_eq, nat_tests, length-map}
-use Words.{list_all-append, slice_get-map, slice_get_within, get_or_from_slice_get, and-true}
-use Words.{and-false, either_or, holds, listed, Name, Node, Declaration, Expr, Statement, Static}
-use Words.{get_first, get_later, item_at, all_at, all_from, and_first, and_second, NodeId, Reached}
-use Words.{CallId, ResolvedNode, VariableId, ResolvedStatement, Term, Value, Group', Unary'}
-use Words.{Binary', If', When', Replicate', Index', Slice', Join', Array', AtMostOne', Nor', Call'}
-use Words.{IterateNode', IterateSymbol', Row_of-Term, end_of-Term, more_of-Term, Program}
-use Words.{node_sites, are_distinct, keeps_names, left_names, node_parts, parts, parts_in}
-use Words.{right_side, variable_names, IsReached, source_names, tree_at, trees, IsResolved, node_of}
-use Words.{texts_of, counts_of, Texts, Counts, is_variable, is_call, is_within, are_within}
-use Words.{is_statement_within, name_at, static_at, named_value, expr_of, row_of, statement_of}
-use Words.{site_at, variables, Part, at_place, first_broken, is_part_defined, if_node, is_defined}
-use Words.{IsIllDefined, count_left, count_statement, count_statements, calls_function}
-use Words.{is_statement_memoryless, is_defined_at, flat_map, ◌≢◌, length-append, ltb-true, eq-eqb}
-use Words.{eqb-true, lt-ltb, le-ltb}
-use Rattle.std.proofs.lemmas.{Bool.ne_eqb, List.Recursion.is_count_by}
-use Rattle.lb_check.specs.{BrokenParts.is_defined_right, DefinitionRules.definition_count}
-use Rattle.lb_check.specs.{DefinitionRules.{defines_once, is_memoryless}, FoundParts.IsDefinedPlace}
-use Rattle.lb_check.specs.NodeDefinitions.{memory_in_function, wanted_count}
-use Rattle.lb_check.proofs.definitions.NodePlaces.{distinct_variables, callee_found, node_resolved}
+use Words.{Array', AtMostOne', Binary', Bool, Call', CallId, Counts, Declaration, Expr, Group', If'}
+use Words.{Index', IsIllDefined, IsReached, IsResolved, IterateNode', IterateSymbol', Join', List}
+use Words.{Name, Node, NodeId, None, Nor', Option, Part, Program, Reached, Replicate', ResolvedNode}
+use Words.{ResolvedStatement, Row_of-Term, Slice', Some, Statement, Static, Term, Texts, Unary'}
+use Words.{Value, VariableId, When', [], all_at, all_from, and-false, and-true, and_first}
+use Words.{and_second, ap, are_distinct, are_within, arith, at_place, bytes_eq, calls_function}
+use Words.{cond, count_left, count_statement, count_statements, counts_of, either_or, end_of-Term}
+use Words.{eq-eqb, eqb-true, expr_of, false, first_broken, flat_map, get_first, get_later}
+use Words.{get_or_from_slice_get, holds, if_node, if◌then◌else◌, is_call, is_defined, is_defined_at}
+use Words.{is_part_defined, is_statement_memoryless, is_statement_within, is_variable, is_within}
+use Words.{item_at, keeps_names, le-ltb, left_names, length, length-append, length-map, list_all}
+use Words.{list_all-append, listed, lt-ltb, ltb-true, map, more_of-Term, name_at, named_value}
+use Words.{nat_eq, nat_lt, nat_tests, node_of, node_parts, node_sites, not, option_map, parts}
+use Words.{parts_in, refl, right_side, row_of, site_at, slice_get, slice_get-map, slice_get_within}
+use Words.{source_names, statement_of, static_at, subst, sym, texts_of, tree_at, trees, true}
+use Words.{variable_names, variables, ℕ, ◌&&◌, ◌++◌, ◌+◌, ◌-◌, ◌<◌, ◌||◌, ◌∙◌, ◌∷◌, ◌≡◌, ◌≢◌, ◌≤◌}
+use Rattle.lb_check.proofs.definitions.NodePlaces.{callee_found, distinct_variables, node_resolved}
 use Rattle.lb_check.proofs.lists.ListPairs.{all_pass, fails_at, found_item, not_all_pass}
-use Rattle.lb_check.proofs.lists.Members.{distinct_at}
+use Rattle.lb_check.{proofs.lists.Members.distinct_at, specs.BrokenParts.is_defined_right}
+use Rattle.lb_check.specs.DefinitionRules.{defines_once, definition_count, is_memoryless}
+use Rattle.lb_check.specs.{FoundParts.IsDefinedPlace, NodeDefinitions.memory_in_function}
+use Rattle.{lb_check.specs.NodeDefinitions.wanted_count, std.proofs.lemmas.Bool.ne_eqb}
+use Rattle.std.proofs.lemmas.List.Recursion.{is_count_by}
 use Rattle.lb_syntax.specs.Tree as tree
 use Rattle.lb_static.specs.declared.resolved.ResolvedStatement.TheVariants as statement
 use Rattle.lb_check.specs.declared.part.Part.TheVariants as part
@@ -224,14 +223,10 @@ module _ (P : Program) (r : Reached) (names : keeps_names P ≡ true) (reached :
     term_memoryless (If' p c q a o b) w =
         two_parts (parts_of c) (parts_of a ++ parts_of b) _ _ (term_memoryless c (and_first _ _ w))
         (two_terms a b (and_second _ _ w) (λ w. term_memoryless a w) (λ w. term_memoryless b w))
-    term_memoryless (When' p e x sign) w =
-        term_memoryless e (and_second _ _ w)
-    term_memoryless (Replicate' p e i) w =
-        term_memoryless e (and_second _ _ w)
-    term_memoryless (Index' p e i) w =
-        term_memoryless e (and_second _ _ w)
-    term_memoryless (Slice' p e i j) w =
-        term_memoryless e (and_second _ _ (and_second _ _ w))
+    term_memoryless (When' p e x sign) w = term_memoryless e (and_second _ _ w)
+    term_memoryless (Replicate' p e i) w = term_memoryless e (and_second _ _ w)
+    term_memoryless (Index' p e i) w = term_memoryless e (and_second _ _ w)
+    term_memoryless (Slice' p e i j) w = term_memoryless e (and_second _ _ (and_second _ _ w))
     term_memoryless (Join' p a q b) w =
         two_terms a b w (λ w. term_memoryless a w) (λ w. term_memoryless b w)
     term_memoryless (Array' arity all) w = row_memoryless all w
@@ -241,8 +236,7 @@ module _ (P : Program) (r : Reached) (names : keeps_names P ≡ true) (reached :
         with_call c (and_first _ _ w) _ _ (row_memoryless all (and_second _ _ w))
     term_memoryless (IterateNode' it c arity all) w =
         with_call c (and_first _ _ w) _ _ (row_memoryless all (and_second _ _ w))
-    term_memoryless (IterateSymbol' it op i arity all) w =
-        row_memoryless all (and_second _ _ w)
+    term_memoryless (IterateSymbol' it op i arity all) w = row_memoryless all (and_second _ _ w)
     term_memoryless e w = refl
 
     row_memoryless : {m : _} (row : Row_of-Term m) → are_within (counts_of n) row ≡ true →
@@ -257,8 +251,7 @@ module _ (P : Program) (r : Reached) (names : keeps_names P ≡ true) (reached :
 
   statement_memoryless : (s : ResolvedStatement) → is_statement_within (counts_of n) s ≡ true →
       is_free (statement_of (texts_of n) s) ≡ is_statement_memoryless r n s
-  statement_memoryless (statement.Equation lefts e) w =
-      term_memoryless e (and_second _ _ w)
+  statement_memoryless (statement.Equation lefts e) w = term_memoryless e (and_second _ _ w)
   statement_memoryless (statement.Assertion e) w = term_memoryless e w
 
   body_memoryless : (ss : List ResolvedStatement) →
@@ -325,13 +318,11 @@ module _ (P : Program) (r : Reached) (names : keeps_names P ≡ true) (reached :
 
   -- ## Definitions
 
-  names_many : length n.variables.items ≡ length (variable_names (node_of n))
-  names_many = resolved.as_many ∙ sym (length-map (variables here) (λ d. d.name))
-
   count_is : (i : ℕ) (d : Declaration) → slice_get (variables (node_of n)) i ≡ Some d →
       definition_count (node_of n) d.name ≡ count_statements i n.body.items
   count_is i d e =
-      counted (texts_of n) (counts_of n) names_many distinct i d.name
+      counted (texts_of n) (counts_of n) (resolved.as_many ∙ sym (length-map (variables here)
+      (λ d. d.name))) distinct i d.name
       (slice_get-map (λ d. d.name) (variables here) i ∙ ap (option_map (λ d. d.name)) e)
       here n.body.items resolved.body resolved.body_within
 

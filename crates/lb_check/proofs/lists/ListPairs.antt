@@ -1,13 +1,11 @@
 -- Two lists item by item, lists that are read backwards, and searches through a list.
-use Rattle.lb_check.proofs.Words.{and-false, ◌≡◌, ℕ, zero, suc, ◌+◌, ◌<◌, Bool, true, List, [], ◌∷◌}
-use Rattle.lb_check.proofs.Words.{take, drop, map, Some, refl, ap, sym, ◌∙◌, arith, ◌&&◌, slice_get}
-use Rattle.lb_check.proofs.Words.{and_from, and_first, and_second, ◌++◌, subst, Every, ◌-◌, ◌≤◌}
-use Rattle.lb_check.proofs.Words.{length, get_or, reverse, append_assoc, drop_all, drop_more}
-use Rattle.lb_check.proofs.Words.{reverse-append, false, cond, Option, None, is_some, not}
-use Rattle.lb_check.proofs.Words.{and-true, listed, at_place, first_broken, list_all}
-use Rattle.lb_check.proofs.Words.{or_else, append-nil, map-append}
-use Rattle.std.proofs.lemmas.List.{take_more}
-use Rattle.std.specs.List.{position_from}
+use Rattle.lb_check.proofs.Words
+use Words.{Bool, Every, List, None, Option, Some, [], and-false, and-true, and_first, and_from}
+use Words.{and_second, ap, append-nil, append_assoc, arith, at_place, cond, drop, drop_all}
+use Words.{drop_more, false, first_broken, get_or, is_some, length, list_all, listed, map}
+use Words.{map-append, not, or_else, refl, reverse, reverse-append, slice_get, subst, suc, sym}
+use Words.{take, true, zero, ℕ, ◌&&◌, ◌++◌, ◌+◌, ◌-◌, ◌<◌, ◌∙◌, ◌∷◌, ◌≡◌, ◌≤◌}
+use Rattle.std.{proofs.lemmas.List.take_more, specs.List.position_from}
 
 -- The items of two lists, place by place.
 
@@ -105,8 +103,7 @@ module _ {A B : Type 0} (R : A → B → Type 0) where
       (S : A → B → Type 0) (Q : A → Type 0) → ((x : A) (y : B) → Q x → R x y → S x y) →
       (xs : List A) (ys : List B) → Every Q xs → Pairs R xs ys → Pairs S xs ys
   Pairs-with S Q f [] [] q h = tt
-  Pairs-with S Q f (x ∷ xs) (y ∷ ys) q h =
-      (f x y q.0 h.0, Pairs-with S Q f xs ys q.1 h.1)
+  Pairs-with S Q f (x ∷ xs) (y ∷ ys) q h = (f x y q.0 h.0, Pairs-with S Q f xs ys q.1 h.1)
   Pairs-with S Q f _ _ q h = absurd h
 
   -- the item that is paired with the one at place `i`
@@ -256,8 +253,7 @@ module _ {A : Type 0} (f : A → Bool) where
   all_pass xs e = all_from 0 xs e
 
   abbrev IsFailing : (k : ℕ) → List A → (m : ℕ) → Type 0
-  IsFailing k xs m =
-      (i : ℕ) × (m ≡ k + i) × (x : A) × (slice_get xs i ≡ Some x) × (f x ≡ false)
+  IsFailing k xs m = (i : ℕ) × (m ≡ k + i) × (x : A) × (slice_get xs i ≡ Some x) × (f x ≡ false)
 
   found_from : (k : ℕ) (xs : List A) (m : ℕ) → broken_from k xs ≡ Some m → IsFailing k xs m
   found_from k [] m e = absurd cc

@@ -1,11 +1,11 @@
 -- Members of lists: statements on each item, lists in which nothing stands twice, distinct names.
 use Rattle.lb_check.proofs.Words
-use Words.{false_from_ne_true, reverse, IfSome, list_all, range_with_len}
-use Words.{reverse-append, Every, some_of, and_first, and_second, ◌⊎◌, inl, inr, ◌≤◌, ap, ◌∙◌, In}
-use Words.{in_map, length, not, nat_lt, slice_get, ◌==◌, bytes_eq, nat_tests, bytes_eq-Decides}
-use Words.{not-true, Name, or_first, or_second, among, are_distinct, ◌≡◌, ℕ, zero, suc, ◌+◌, ◌<◌}
-use Words.{Bool, true, false, List, [], ◌∷◌, ◌++◌, Option, Some, None, map, flat_map, refl, sym}
-use Words.{ap₂, subst, arith}
+use Words.{Bool, Every, IfSome, In, List, Name, None, Option, Some, [], among, and_first}
+use Words.{and_second, ap, ap₂, are_distinct, arith, bytes_eq, bytes_eq-Decides, false}
+use Words.{false_from_ne_true, flat_map, in_map, inl, inr, length, list_all, map, nat_lt, nat_tests}
+use Words.{not, not-true, or_first, or_second, range_with_len, refl, reverse, reverse-append}
+use Words.{slice_get, some_of, subst, suc, sym, true, zero, ℕ, ◌++◌, ◌+◌, ◌<◌, ◌==◌, ◌∙◌, ◌∷◌, ◌≡◌}
+use Words.{◌≤◌, ◌⊎◌}
 use Rattle.std.specs.List.{filter}
 pub use Rattle.lb_syntax.specs.Lists.{AreApart}
 
@@ -66,8 +66,7 @@ module _ {A : Type 0} (Q : A → Type 0) {B : Type 0} (f : B → List A) where
 
   pub Every-of_pieces : (bs : List B) → Every (λ b. Every Q (f b)) bs → Every Q (flat_map f bs)
   Every-of_pieces [] h = tt
-  Every-of_pieces (b ∷ bs) h =
-      Every-append Q (f b) (flat_map f bs) h.0 (Every-of_pieces bs h.1)
+  Every-of_pieces (b ∷ bs) h = Every-append Q (f b) (flat_map f bs) h.0 (Every-of_pieces bs h.1)
 
 -- a statement on each result that is found holds of each item of the results
 module _ {A B : Type 0} (Q : B → Type 0) (f : A → Option B) where
@@ -79,8 +78,7 @@ module _ {A B : Type 0} (Q : B → Type 0) (f : A → Option B) where
   Every-finds [] h = tt
   Every-finds (x ∷ xs) h = grind (arith, h, Every-finds xs)
 
-pub Every-range :
-    (Q : ℕ → Type 0) (a n i : ℕ) → Every Q (range_with_len a n) → i < n → Q (a + i)
+pub Every-range : (Q : ℕ → Type 0) (a n i : ℕ) → Every Q (range_with_len a n) → i < n → Q (a + i)
 Every-range Q a zero i h lt = absurd (omega arith)
 Every-range Q a (suc n) zero h lt = subst Q (omega arith) h.0
 Every-range Q a (suc n) (suc i) h lt =
@@ -140,8 +138,7 @@ module _ {A : Type 0} where
   Every-from Q (x ∷ xs) h = (h x (inl refl), Every-from Q xs (λ y i. h y (inr i)))
 
 module _ {A B : Type 0} (f : A → Option B) where
-  pub in_some :
-      (xs : List A) (x : A) (y : B) → In x xs → f x ≡ Some y → In y (some_of (map f xs))
+  pub in_some : (xs : List A) (x : A) (y : B) → In x xs → f x ≡ Some y → In y (some_of (map f xs))
   in_some [] x y i is = absurd i
   in_some (z ∷ xs) x y (inl e) is =
       let same : f z ≡ Some y = ap f e ∙ is in
@@ -294,9 +291,6 @@ held_at [] i e = absurd (grind (arith, nat_tests))
 held_at (x ∷ xs) zero e = (x, refl)
 held_at (x ∷ xs) (suc i) e = held_at xs i (grind (arith, nat_tests))
 
-same_suc : (i j : ℕ) → (j == i) ≡ (suc j == suc i)
-same_suc i j = grind (arith, nat_tests)
-
 zero_suc : (i : ℕ) → (suc i == 0) ≡ false
 zero_suc i = grind (arith, nat_tests)
 
@@ -324,4 +318,4 @@ distinct_at (z ∷ xs) (suc i) zero x y d p q =
     let no = not_among z xs i x (not-true _ (and_first _ (are_distinct xs) d)) p in
     subst (λ w. bytes_eq x w ≡ false) s (unequal z x no) ∙ sym (suc_zero i)
 distinct_at (z ∷ xs) (suc i) (suc j) x y d p q =
-    distinct_at xs i j x y (and_second (not (among z xs)) _ d) p q ∙ same_suc i j
+    distinct_at xs i j x y (and_second (not (among z xs)) _ d) p q ∙ grind (arith, nat_tests)

@@ -129,8 +129,7 @@ module _ {A B C : Type 0} (f : A → List B) (g : A → List C) where
                 ∙ (get_later (g x) (flat_map g xs) at.0 ∙ p.beside);
           }
 
-get_replicate : {A : Type 0} (n : ℕ) (x : A) (i : ℕ) → i < n →
-    slice_get (replicate n x) i ≡ Some x
+get_replicate : {A : Type 0} (n : ℕ) (x : A) (i : ℕ) → i < n → slice_get (replicate n x) i ≡ Some x
 get_replicate zero x i lt = absurd (omega arith)
 get_replicate (suc n) x zero lt = refl
 get_replicate (suc n) x (suc i) lt = get_replicate n x i (omega arith)
@@ -313,16 +312,14 @@ range_first a (suc n) (x ∷ xs) ys e =
 
 -- ## Kinds of inputs
 
-kinds_all : (k : Kind) (xs : List Name) →
-    kinds_of (map (λ x. (x, k)) xs) ≡ replicate (length xs) k
+kinds_all : (k : Kind) (xs : List Name) → kinds_of (map (λ x. (x, k)) xs) ≡ replicate (length xs) k
 kinds_all k [] = refl
 kinds_all k (x ∷ xs) = ap (λ ks. k ∷ ks) (kinds_all k xs)
 
 module _ (P : Program) (here : Instance) where
   variable_kinds : (d : Declaration) →
       kinds_of (scalar_elements P here d) ≡ replicate (width P here d) d.kind
-  variable_kinds d =
-      grind (arith, kinds_all d.kind, length-element_names d.name)
+  variable_kinds d = grind (arith, kinds_all d.kind, length-element_names d.name)
 
   variables_kinds : (ds : List Declaration) →
       kinds_of (flat_map (scalar_elements P here) ds) ≡ kinds_in P here ds
@@ -372,8 +369,7 @@ module _ (P : Program) (root : Instance) (there : instance_at P Root ≡ Some ro
     abbrev numbers_for : Instance → List Declaration → List ℕ
     numbers_for here ds = flat_map (λ d. numbers_of P here.path d.name) ds
 
-    input_count :
-        length (numbers_for root root.node.inputs) ≡ length (input_kinds P)
+    input_count : length (numbers_for root root.node.inputs) ≡ length (input_kinds P)
     input_count =
         let is_in = subst (In root) (sym root_first.1) (inl refl) in
         let inner = root.node.outputs ++ root.node.locals in

@@ -1,17 +1,16 @@
 -- The rules and properties of the instances of an accepted program.
-pub use Rattle.lb_check.proofs.programs.SameHistories.{all_typed, all_clocked}
-use Rattle.lb_check.proofs.Words.{◌≡◌, ℕ, suc, true, None, List, [], ◌∷◌, list_all, Every, In, E5}
-use Rattle.lb_check.proofs.Words.{E6, E12, unless, and_first, and_second, Program, Instance}
-use Rattle.lb_check.proofs.Words.{instances, static_refusal, has_values, is_in_range, may_enter}
-use Rattle.lb_check.proofs.Words.{instance_refusal, instantiation_refusal, variables, check_refusal}
-use Rattle.lb_check.proofs.Words.{is_clocked, are_declared_clocks, is_typed, is_clock_typed}
-use Rattle.lb_check.proofs.Words.{is_statement_typed, node_sites}
+use Rattle.lb_check.proofs.Words.{E12, E5, E6, Every, In, Instance, List, None, Program, []}
+use Rattle.lb_check.proofs.Words.{and_first, and_second, are_declared_clocks, check_refusal}
+use Rattle.lb_check.proofs.Words.{has_values, instance_refusal, instances, instantiation_refusal}
+use Rattle.lb_check.proofs.Words.{is_clock_typed, is_clocked, is_in_range, is_statement_typed}
+use Rattle.lb_check.proofs.Words.{is_typed, list_all, may_enter, node_sites, static_refusal, suc}
+use Rattle.lb_check.proofs.Words.{true, unless, variables, ℕ, ◌∷◌, ◌≡◌}
 use Rattle.lb_check.proofs.clocking.NamedClocks.{OfCalled, Sited}
-use Rattle.lb_check.proofs.definitions.BrokenRules.{first_none, second_none, kept}
-use Rattle.lb_check.proofs.{definitions.BrokenRules.instantiation_kept, lists.Members.Every-at}
-use Rattle.lb_check.proofs.lists.Members.{Every-map, Every-both}
-use Rattle.lb_check.proofs.programs.SameHistories.{IsEntered, Low, all_entered, all_children}
-use Rattle.lb_check.proofs.programs.SameHistories.{all_called}
+use Rattle.lb_check.proofs.definitions.BrokenRules.{first_none, instantiation_kept, kept}
+use Rattle.lb_check.proofs.{definitions.BrokenRules.second_none, lists.Members.Every-at}
+use Rattle.lb_check.proofs.{lists.Members.{Every-both, Every-map}, programs.SameHistories.IsEntered}
+use Rattle.lb_check.proofs.programs.SameHistories.{Low, all_called, all_children, all_entered}
+pub use Rattle.lb_check.proofs.programs.SameHistories.{all_clocked, all_typed}
 
 -- The rules that each instance of an accepted program keeps.
 
@@ -29,8 +28,7 @@ all_valued P n (c ∷ is) e =
     let later = second_none (unless (may_enter P n c) E12) _ here in (
       record {
         values = kept (has_values P c) E5 (first_none _ _ later);
-        in_range =
-            kept (is_in_range P c) E6 (second_none (unless (has_values P c) E5) _ later);
+        in_range = kept (is_in_range P c) E6 (second_none (unless (has_values P c) E5) _ later);
       },
       all_valued P (suc n) is (second_none (instance_refusal P n c) _ e),
     )
@@ -74,8 +72,7 @@ module _ (P : Program) (elaborated : static_refusal P ≡ None) (Q : Instance �
   entered = all_entered P 0 (instances P) (instantiation_kept P elaborated)
 
   -- the calls of each instance have instances, of which the property holds
-  pub calls_have :
-      Every (λ here. Sited (OfCalled P here Q) 0 (node_sites here.node)) (instances P)
+  pub calls_have : Every (λ here. Sited (OfCalled P here Q) 0 (node_sites here.node)) (instances P)
   calls_have =
       Every-map _ (λ here. Sited (OfCalled P here Q) 0 (node_sites here.node))
       (λ here z. all_called P Q here z.1 z.0.1) (instances P)

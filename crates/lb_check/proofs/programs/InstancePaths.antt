@@ -1,27 +1,25 @@
 -- The instances of a program by their paths, and the node of each by its name.
 use Rattle.lb_check.proofs.Words
-use Words.{false_from_ne_true, not-false, ◌≡◌, ◌⊎◌, inl, inr, ℕ, zero, suc, ◌+◌, ◌<◌, ◌≤◌, Bool}
-use Words.{true, false, Option, Some, None, List, [], ◌∷◌, refl, ap, ap₂, sym, subst, ◌∙◌, arith}
-use Words.{nat_lt, slice_get, IfSome, if◌then◌else◌, range_with_len, nat_tests, eqb-true, ltb-true}
-use Words.{and_from, same_Some, Every, In, listed, same_number, and_first, and_second, Program}
-use Words.{Instance, Path, Root, Observer, Child, is_path, Site, node_sites, numbered_sites}
-use Words.{instance_count, callee_of, start_at, instance_at, site_instances, children}
-use Words.{instances_from, instances, instantiation_refusal, ◌||◌, not, find, bytes_eq, list_all}
-use Words.{list_any, bytes_eq-Decides, or_right, all_some, Name, Node, all_in, node_named}
-use Words.{static_value, static_refusal, are_distinct, declares_once, is_named, keeps_names}
-use Words.{reached_nodes, among, variable_names, in_at, in_filter, any_in, in_any, found_passes}
-use Words.{map}
-use Rattle.{std.proofs.lemmas.Bool.or_left, lb_static.specs.Names.{calls, reached_within}}
-use Rattle.lb_static.{specs.Names.start_names, proofs.Saturation.enough_calls}
+use Words.{Bool, Child, Every, IfSome, In, Instance, List, Name, Node, None, Observer, Option, Path}
+use Words.{Program, Root, Site, Some, [], all_in, all_some, among, and_first, and_from, and_second}
+use Words.{any_in, ap, ap₂, are_distinct, arith, bytes_eq, bytes_eq-Decides, callee_of, children}
+use Words.{declares_once, eqb-true, false, false_from_ne_true, find, found_passes, if◌then◌else◌}
+use Words.{in_any, in_at, in_filter, inl, inr, instance_at, instance_count, instances}
+use Words.{instances_from, instantiation_refusal, is_named, is_path, keeps_names, list_all}
+use Words.{list_any, listed, ltb-true, map, nat_lt, nat_tests, node_named, node_sites, not}
+use Words.{not-false, numbered_sites, or_right, range_with_len, reached_nodes, refl, same_Some}
+use Words.{same_number, site_instances, slice_get, start_at, static_refusal, static_value, subst}
+use Words.{suc, sym, true, variable_names, zero, ℕ, ◌+◌, ◌<◌, ◌||◌, ◌∙◌, ◌∷◌, ◌≡◌, ◌≤◌, ◌⊎◌}
 use Rattle.lb_check.proofs.{clocking.NamedClocks.if_some, definitions.BrokenRules.names_kept}
-use Rattle.lb_check.proofs.{lists.Members.Every-all, programs.SameHistories.callee_path}
-use Rattle.lb_check.proofs.lists.Members.{Every-map, Every-both, Every-append, Every-of_pieces}
-use Rattle.lb_check.proofs.lists.Members.{Every-found, Every-of_range, in_first, in_second}
-use Rattle.lb_check.proofs.lists.Members.{Every-at, Every-from, in_some, some_in, AreApart}
-use Rattle.lb_check.proofs.lists.Members.{apart-append, some_apart, IsPiece, of_pieces, to_pieces}
-use Rattle.lb_check.proofs.lists.Members.{apart_pieces, range_apart, in_range, distinct_first}
-use Rattle.lb_check.proofs.programs.SameHistories.{all_entered, all_children, started}
-use Rattle.lb_check.proofs.typing.OperandTypes.{bound}
+use Rattle.lb_check.proofs.lists.Members.{AreApart, Every-all, Every-append, Every-at, Every-both}
+use Rattle.lb_check.proofs.lists.Members.{Every-found, Every-from, Every-map, Every-of_pieces}
+use Rattle.lb_check.proofs.lists.Members.{Every-of_range, IsPiece, apart-append, apart_pieces}
+use Rattle.lb_check.proofs.lists.Members.{distinct_first, in_first, in_range, in_second, in_some}
+use Rattle.lb_check.proofs.lists.Members.{of_pieces, range_apart, some_apart, some_in, to_pieces}
+use Rattle.lb_check.proofs.programs.SameHistories.{all_children, all_entered, callee_path, started}
+use Rattle.{lb_check.proofs.typing.OperandTypes.bound, lb_static.proofs.Saturation.enough_calls}
+use Rattle.lb_static.specs.Names.{calls, reached_within, start_names}
+use Rattle.std.proofs.lemmas.Bool.{or_left}
 
 -- Instances by their paths: each stands where its path says, each that stands at a path is among
 -- the instances, and no path has two.
@@ -226,8 +224,7 @@ module _ (P : Program) where
   at_path c i = Every-at IsAt (instances P) c all_at i
 
   pub same_instance : (c d : Instance) → IsAt c → IsAt d → c.path ≡ d.path → c ≡ d
-  same_instance c d at_c at_d e =
-      same_Some c d (sym at_c ∙ (ap (instance_at P) e ∙ at_d))
+  same_instance c d at_c at_d e = same_Some c d (sym at_c ∙ (ap (instance_at P) e ∙ at_d))
 
   -- ## A child of an instance is an instance
 
@@ -423,8 +420,7 @@ module _ (P : Program) where
         (Every-from Kept _ (λ c k. k)))) i
 
     -- the instance at a path is an instance of the program
-    pub in_instances :
-        (p : Path) (c : Instance) → instance_at P p ≡ Some c → In c (instances P)
+    pub in_instances : (p : Path) (c : Instance) → instance_at P p ≡ Some c → In c (instances P)
     in_instances Root c e =
         in_first c (listed (instances_from P 65) (instance_at P Root))
         (listed (instances_from P 65) (instance_at P Observer)) (rw e (inl refl))
@@ -585,8 +581,7 @@ module _ (P : Program) where
 
 module _ (P : Program) (accepted : static_refusal P ≡ None) where
   -- no instance has two variables of one name
-  pub variables_distinct :
-      Every (λ c. are_distinct (variable_names c.node) ≡ true) (instances P)
+  pub variables_distinct : Every (λ c. are_distinct (variable_names c.node) ≡ true) (instances P)
   variables_distinct =
       Every-map _ _ (λ c is.
       distinct_first (variable_names c.node) c.node.parameters

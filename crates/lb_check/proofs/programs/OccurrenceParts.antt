@@ -75,8 +75,7 @@ module _ (P : Program) (here : Node) (Q : Occurrence → Type 0) where
     below k n (Replicate a m) h = (tt, below k n a h.1)
     below k n (Index a i) h = (tt, below k n a h.1)
     below k n (Slice a i j) h = (tt, below k n a h.1)
-    below k n (Join a b) h =
-        (tt, two_below _ _ (below k n a) (below k (n + call_count a) b) h.1)
+    below k n (Join a b) h = (tt, two_below _ _ (below k n a) (below k (n + call_count a) b) h.1)
     below k n (Array es) h = (tt, row_below k n es h.1)
     below k n (AtMostOne es) h = (tt, row_below k n es h.1)
     below k n (Nor es) h = (tt, row_below k n es h.1)
@@ -88,8 +87,7 @@ module _ (P : Program) (here : Node) (Q : Occurrence → Type 0) where
     row_below : (k : Clock) (n : ℕ) (es : Exprs) → AllHave (occurrences_in P here k n es) →
         Below (occurrences_in P here k n es)
     row_below k n Nil h = tt
-    row_below k n (Cons e es) h =
-        two_below _ _ (below k n e) (row_below k (n + call_count e) es) h
+    row_below k n (Cons e es) h = two_below _ _ (below k n e) (row_below k (n + call_count e) es) h
 
     each_below :
         (ks : List Clock) (n : ℕ) (es : Exprs) → AllHave (occurrences_each P here ks n es) →
@@ -104,12 +102,10 @@ module _ (P : Program) (here : Node) (Q : Occurrence → Type 0) where
       AllHave (flat_map (λ r. occurrences P here r.clock r.calls_before r.expr) rs) →
       Below (flat_map (λ r. occurrences P here r.clock r.calls_before r.expr) rs)
   body_below [] h = tt
-  body_below (r ∷ rs) h =
-      two_below _ _ (below r.clock r.calls_before r.expr) (body_below rs) h
+  body_below (r ∷ rs) h = two_below _ _ (below r.clock r.calls_before r.expr) (body_below rs) h
 
   -- a property of all occurrences of a node holds of those of operands that memories keep
-  pub operands_have :
-      AllHave (node_occurrences P here) → Every OperandHas (node_occurrences P here)
+  pub operands_have : AllHave (node_occurrences P here) → Every OperandHas (node_occurrences P here)
   operands_have h = body_below (right_sides P here 0 here.body) h
 
 -- The occurrences of a node whose types are right are its parts, in text order.

@@ -61,8 +61,7 @@ numbered_below n (t ∷ ss) c s (inr i) =
 -- ## The first item that is found
 
 module _ {A : Type 0} (test : A → Bool) where
-  pub find_first :
-      (xs ys : List A) (x : A) → find test xs ≡ Some x → find test (xs ++ ys) ≡ Some x
+  pub find_first : (xs ys : List A) (x : A) → find test xs ≡ Some x → find test (xs ++ ys) ≡ Some x
   find_first xs ys x e = find-append test xs ys ∙ ap (λ o. option_or o (find test ys)) e
 
   pub find_later :
@@ -102,8 +101,7 @@ pub record AreCalls (n : ℕ) (os : List Occurrence) (ss : List Site) : Type 0 w
   pub stand :
       Every (λ o. (s : Site) → own_site o.expr ≡ Some s →
       In (o.calls_before, s) (numbered_sites n ss)) os
-  pub found :
-      Every (λ o. is_site o.expr ≡ true → find (is_numbered o.calls_before) os ≡ Some o) os
+  pub found : Every (λ o. is_site o.expr ≡ true → find (is_numbered o.calls_before) os ≡ Some o) os
 
 none : {n : ℕ} {ss : List Site} → AreCalls n [] ss
 none = record { stand = tt; found = tt }
@@ -222,18 +220,15 @@ module _ (P : Program) (here : Node) where
         let na = n + call_count c in
         part refl (joined (calls_of k n c)
         (joined (calls_of k na a) (calls_of k (na + call_count a) b)))
-    calls_of k n (Arrow a b) =
-        part refl (joined (calls_of k n a) (calls_of k (n + call_count a) b))
-    calls_of k n (Fby a b) =
-        part refl (joined (calls_of k n a) (calls_of k (n + call_count a) b))
+    calls_of k n (Arrow a b) = part refl (joined (calls_of k n a) (calls_of k (n + call_count a) b))
+    calls_of k n (Fby a b) = part refl (joined (calls_of k n a) (calls_of k (n + call_count a) b))
     calls_of k n (Pre a) = part refl (calls_of k n a)
     calls_of k n (When a x sign) = part refl (calls_of (declared_clock here x) n a)
     calls_of k n (Current a) = part refl (calls_of (clock_or (clock_of P here a)) n a)
     calls_of k n (Replicate a m) = part refl (calls_of k n a)
     calls_of k n (Index a i) = part refl (calls_of k n a)
     calls_of k n (Slice a i j) = part refl (calls_of k n a)
-    calls_of k n (Join a b) =
-        part refl (joined (calls_of k n a) (calls_of k (n + call_count a) b))
+    calls_of k n (Join a b) = part refl (joined (calls_of k n a) (calls_of k (n + call_count a) b))
     calls_of k n (Array es) = part refl (calls_in k n es)
     calls_of k n (AtMostOne es) = part refl (calls_in k n es)
     calls_of k n (Nor es) = part refl (calls_in k n es)
@@ -262,8 +257,7 @@ module _ (P : Program) (here : Node) where
   pub statement_calls : (n : ℕ) (s : Statement) →
       AreCalls n (occurrences P here (statement_clock P here s) n (right_side s))
       (statement_sites s)
-  statement_calls n (Equation lefts e) =
-      calls_of (statement_clock P here (Equation lefts e)) n e
+  statement_calls n (Equation lefts e) = calls_of (statement_clock P here (Equation lefts e)) n e
   statement_calls n (Assertion e) = calls_of (statement_clock P here (Assertion e)) n e
 
   pub body_calls : (n : ℕ) (ss : List Statement) →

@@ -196,8 +196,7 @@ module _ (P : Program) (here : Instance) where
   operands_typed k n (When a x sign) ts e =
       let t = bound (from_truths (singly (name_data_type P here x))) _ ts e in
       has_one (declared_clock here.node x) n a Some ts t.gives
-  operands_typed k n (Current a) ts e =
-      has_one (clock_or (clock_of P here.node a)) n a Some ts e
+  operands_typed k n (Current a) ts e = has_one (clock_or (clock_of P here.node a)) n a Some ts e
   operands_typed k n (Replicate a m) ts e =
       let c = bound (static_count P here m) _ ts e in
       has_one k n a (array_of c.value) ts c.gives

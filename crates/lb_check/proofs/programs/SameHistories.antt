@@ -1,38 +1,35 @@
 -- Two histories that agree on instances: they have the same streams, rules and verdict.
 use Rattle.lb_check.proofs.Words
-use Words.{Bool, ◌≡◌, ℕ, ◌+◌, true, Option, Some, None, List, [], ◌∷◌, ◌++◌, flat_map, refl, ap₂}
-use Words.{IfSome, list_all, list_any, Every, Name, Statement, Equation, Assertion, and_first}
-use Words.{Program, Instance, node_sites, among, clock_names, variables, is_clocked}
-use Words.{are_declared_clocks, Occurrence, statements, node_occurrences, AgreeAt, streams_at}
-use Words.{History, is_typed, ◌&&◌, nat_le, nat_lt, range_with_len, nat_tests, same_Some, either_or}
-use Words.{holds, listed, all_some, E5, E6, E9, E10, E12, unless, Static, Path, Root, Observer}
-use Words.{Child, Site, numbered_sites, node_named, static_value, static_count, instance_count}
-use Words.{callee_of, start_at, instance_at, site_instances, children, instances_from, instances}
-use Words.{node_sizes, is_between, is_in_range, has_values, may_enter, instance_refusal}
-use Words.{instantiation_refusal, check_refusal, AreSame, ◌⊎◌, inl, inr, length, ◌∙◌, ◌||◌}
-use Words.{static_refusal, Inputs, Solves, zero, suc, ◌<◌, ◌≤◌, map, ap, sym, subst, arith}
-use Words.{memory_operand, and_second}
-use Rattle.{lb_syntax.proofs.TruthValues.contrary}
-use Rattle.lb_static.{specs.Instantiation.level, proofs.SiteCounts.{passes, counted, node_counts}}
-use Rattle.lb_check.specs.{Scalars.{Cell, Stream}, Solutions.HasOneHistory}
-use Rattle.lb_check.specs.Verdicts.{assertion_of, assertions}
-use Rattle.lb_check.specs.Verdicts.{memory_operands, variable_columns, memory_columns}
-use Rattle.lb_check.specs.Verdicts.{assertion_columns, named_places, clock_variables, clock_columns}
-use Rattle.lb_check.specs.Verdicts.{Verdict, Passed, Fault, Undefined, Assertion_fails, False}
-use Rattle.lb_check.specs.Verdicts.{is_bad, is_nil, is_false, some_at, is_fault, is_undefined}
-use Rattle.lb_check.specs.Verdicts.{is_failed, property_path, property_columns, is_violated}
-use Rattle.lb_check.specs.Verdicts.{decides, IsLeast, Ends, HasVerdict, IsOnlyVerdict}
+use Words.{AgreeAt, AreSame, Assertion, Bool, Child, E10, E12, E5, E6, E9, Equation, Every, History}
+use Words.{IfSome, Inputs, Instance, List, Name, None, Observer, Occurrence, Option, Path, Program}
+use Words.{Root, Site, Solves, Some, Statement, Static, [], all_some, among, and_first, and_second}
+use Words.{ap, ap₂, are_declared_clocks, arith, callee_of, check_refusal, children, clock_names}
+use Words.{either_or, flat_map, has_values, holds, inl, inr, instance_at, instance_count}
+use Words.{instance_refusal, instances, instances_from, instantiation_refusal, is_between}
+use Words.{is_clocked, is_in_range, is_typed, length, list_all, list_any, listed, map, may_enter}
+use Words.{memory_operand, nat_le, nat_lt, nat_tests, node_named, node_occurrences, node_sites}
+use Words.{node_sizes, numbered_sites, range_with_len, refl, same_Some, site_instances, start_at}
+use Words.{statements, static_count, static_refusal, static_value, streams_at, subst, suc, sym}
+use Words.{true, unless, variables, zero, ℕ, ◌&&◌, ◌++◌, ◌+◌, ◌<◌, ◌||◌, ◌∙◌, ◌∷◌, ◌≡◌, ◌≤◌, ◌⊎◌}
 use Rattle.lb_check.proofs.clocking.NamedClocks.{OfCalled, Sited, if_some}
-use Rattle.lb_check.proofs.definitions.BrokenRules.{first_none, second_none, kept}
-use Rattle.lb_check.proofs.{definitions.BrokenRules.instantiation_kept, lists.Members.Every-append}
-use Rattle.lb_check.proofs.lists.Members.{Every-filter, Every-found, Every-tested, flat_same}
-use Rattle.lb_check.proofs.lists.Members.{Every-map, Every-both, Every-all, Every-first}
-use Rattle.lb_check.proofs.lists.Members.{Every-second, Every-piece, Every-of_pieces, Every-finds}
-use Rattle.lb_check.proofs.{lists.Members.Every-range, programs.SameStreams.Same}
-use Rattle.lb_check.proofs.programs.SameStreams.{IsSame, KeepsSame, StandsHere, known, streams_same}
-use Rattle.lb_check.proofs.programs.SameStreams.{keeps_same}
+use Rattle.lb_check.proofs.definitions.BrokenRules.{first_none, instantiation_kept, kept}
+use Rattle.lb_check.proofs.{definitions.BrokenRules.second_none, lists.Members.Every-all}
+use Rattle.lb_check.proofs.lists.Members.{Every-append, Every-both, Every-filter, Every-finds}
+use Rattle.lb_check.proofs.lists.Members.{Every-first, Every-found, Every-map, Every-of_pieces}
+use Rattle.lb_check.proofs.lists.Members.{Every-piece, Every-range, Every-second, Every-tested}
+use Rattle.lb_check.proofs.{lists.Members.flat_same, programs.SameStreams.{IsSame, KeepsSame, Same}}
+use Rattle.lb_check.proofs.programs.SameStreams.{StandsHere, keeps_same, known, streams_same}
 use Rattle.lb_check.proofs.programs.StandingParts.{StatementStands, node_stands}
-use Rattle.lb_check.proofs.typing.OperandTypes.{bound}
+use Rattle.lb_check.{proofs.typing.OperandTypes.bound, specs.Scalars.{Cell, Stream}}
+use Rattle.lb_check.specs.{Solutions.HasOneHistory, Verdicts.{Assertion_fails, Ends, False, Fault}}
+use Rattle.lb_check.specs.Verdicts.{HasVerdict, IsLeast, IsOnlyVerdict, Passed, Undefined, Verdict}
+use Rattle.lb_check.specs.Verdicts.{assertion_columns, assertion_of, assertions, clock_columns}
+use Rattle.lb_check.specs.Verdicts.{clock_variables, decides, is_bad, is_failed, is_false, is_fault}
+use Rattle.lb_check.specs.Verdicts.{is_nil, is_undefined, is_violated, memory_columns}
+use Rattle.lb_check.specs.Verdicts.{memory_operands, named_places, property_columns, property_path}
+use Rattle.lb_check.specs.Verdicts.{some_at, variable_columns}
+use Rattle.lb_static.{proofs.SiteCounts.{counted, node_counts, passes}, specs.Instantiation.level}
+use Rattle.lb_syntax.proofs.TruthValues.{contrary}
 
 -- Two histories that agree on an instance and on those that it calls have the same streams at the
 -- named places of the instance.

@@ -65,11 +65,9 @@ module _ (P : Program) (H G : History) (here : Instance) (agree : AgreeAt H G he
   Same x = H.columns here.path x ≡ G.columns here.path x
 
   -- the histories agree on a clock over names on which they agree
-  pub presence_same :
-      (k : Clock) → IsOver Same k → presence H here.path k ≡ presence G here.path k
+  pub presence_same : (k : Clock) → IsOver Same k → presence H here.path k ≡ presence G here.path k
   presence_same Base h = agree.ticks
-  presence_same (On k x sign) h =
-      ap₂ (λ bs xss. signed bs sign xss) (presence_same k h.0) h.1
+  presence_same (On k x sign) h = ap₂ (λ bs xss. signed bs sign xss) (presence_same k h.0) h.1
 
   -- an instance that is called keeps the rules of declared clocks
   pub known : (c : Instance) → IsSame H G c → are_declared_clocks c.node ≡ true
@@ -226,8 +224,7 @@ module _ (P : Program) (H G : History) (here : Instance) (agree : AgreeAt H G he
     where
       by : (k : Clock) (n : ℕ) (e : Expr) → StandsHere (at k n e) → KeepsSame (at k n e)
       by k n (Pre a) s = same_streams k n a (operands k n (Pre a) s)
-      by k n (Fby a b) s =
-          same_streams k (n + call_count a) b (operands k n (Fby a b) s).1
+      by k n (Fby a b) s = same_streams k (n + call_count a) b (operands k n (Fby a b) s).1
       by k n (Current a) s =
           same_streams (clock_or (clock_of P here.node a)) n a (operands k n (Current a) s)
       by k n e s = tt

@@ -1,35 +1,34 @@
 -- The variables that serve for others in clocks: their numbers and values.
 use Rattle.lb_check.proofs.Words
-use Words.{◌≡◌, ◌⊎◌, inl, inr, ℕ, ◌<◌, Bool, true, false, Option, Some, None, List, [], ◌∷◌, ◌++◌}
-use Words.{length, map, flat_map, refl, ap, sym, ◌∙◌, subst, arith, ◌&&◌, ◌||◌, not, nat_eq, filter}
-use Words.{slice_get, list_all, bytes_eq, bytes_eq-Decides, eqb-true, same_Some, ◌>>=◌, In}
-use Words.{either_or, holds, listed, Name, Static, Expr, Call, Exprs, Declaration, Node, Statement}
-use Words.{all_in, item_at, and_first, and_second, implied, variables, width, Program, Instance}
-use Words.{Path, Root, Observer, Child, instance_at, instances, node_named, node_sites}
-use Words.{static_refusal, declares_once, is_named, among, variable_names, left_names, clock_names}
-use Words.{map_in, in_any, found_passes, check_refusal, are_given_variables, is_given_variable}
-use Words.{is_call_clocked, is_occurrence_clocked, are_declared_clocks, numbers_of, Occurrence, at}
-use Words.{node_occurrences, ap₂, Equation, Assertion, Site, call_site, instance_count, callee_of}
-use Words.{right_side, ungrouped, statements, Clock, On, Given, given_inputs, given_outputs}
-use Words.{WholeClock, Always, Where, is_clock_parameter, is_site, call_at, lefts_at}
-use Words.{given_parameters, given_to, serves, serving, whole_clock, site_clock, runs_on}
-use Rattle.std.proofs.lemmas.Option.{none-some}
-use Rattle.{std.proofs.Common.zip, lb_syntax.specs.Tree.Sampling, lb_static.specs.Names.is_callable}
-use Rattle.lb_static.specs.{Names.{is_known, is_static_name, is_variable}, Parts.node_names}
-use Rattle.lb_static.{specs.Parts.node_static_names, proofs.Members.filter_in}
-use Rattle.lb_check.{specs.{Clocks.Base, Needs.given_at}, proofs.clocking.GivenNames.none_given}
-use Rattle.lb_check.proofs.clocking.GivenParameters.{found_in, found_filtered, given_after}
-use Rattle.lb_check.proofs.clocking.{GivenParameters.same_before, NamedClocks.called_passes}
-use Rattle.lb_check.proofs.clocking.NamedClocks.{IsOver, base_over, one_clock}
+use Words.{Always, Assertion, Bool, Call, Child, Clock, Declaration, Equation, Expr, Exprs, Given}
+use Words.{In, Instance, List, Name, Node, None, Observer, Occurrence, On, Option, Path, Program}
+use Words.{Root, Site, Some, Statement, Static, Where, WholeClock, [], all_in, among, and_first}
+use Words.{and_second, ap, ap₂, are_declared_clocks, are_given_variables, arith, at, bytes_eq}
+use Words.{bytes_eq-Decides, call_at, call_site, callee_of, check_refusal, clock_names}
+use Words.{declares_once, either_or, eqb-true, false, filter, flat_map, found_passes, given_inputs}
+use Words.{given_outputs, given_parameters, given_to, holds, implied, in_any, inl, inr, instance_at}
+use Words.{instance_count, instances, is_call_clocked, is_clock_parameter, is_given_variable}
+use Words.{is_named, is_occurrence_clocked, is_site, item_at, left_names, lefts_at, length}
+use Words.{list_all, listed, map, map_in, nat_eq, node_named, node_occurrences, node_sites, not}
+use Words.{numbers_of, refl, right_side, runs_on, same_Some, serves, serving, site_clock, slice_get}
+use Words.{statements, static_refusal, subst, sym, true, ungrouped, variable_names, variables}
+use Words.{whole_clock, width, ℕ, ◌&&◌, ◌++◌, ◌<◌, ◌>>=◌, ◌||◌, ◌∙◌, ◌∷◌, ◌≡◌, ◌⊎◌}
+use Rattle.lb_check.proofs.clocking.{GivenNames.none_given, GivenParameters.found_filtered}
+use Rattle.lb_check.proofs.clocking.GivenParameters.{found_in, given_after, same_before}
+use Rattle.lb_check.proofs.clocking.NamedClocks.{IsOver, base_over, called_passes, one_clock}
 use Rattle.lb_check.proofs.definitions.BrokenRules.{instantiation_kept, names_kept}
 use Rattle.lb_check.proofs.definitions.CallNumbers.{IsRightSide, lefts_are}
-use Rattle.lb_check.proofs.lists.Members.{in_second, Every-at, to_pieces}
+use Rattle.lb_check.proofs.lists.Members.{Every-at, in_second, to_pieces}
 use Rattle.lb_check.proofs.programs.{AcceptedElements.numbers_width, AcceptedRules.clocked}
-use Rattle.lb_check.proofs.programs.InstancePaths.{find_in, instances_named, called, path_is}
-use Rattle.lb_check.proofs.programs.InstancePaths.{in_instances, callee_node}
+use Rattle.lb_check.proofs.programs.InstancePaths.{called, callee_node, find_in, in_instances}
+use Rattle.lb_check.proofs.programs.InstancePaths.{instances_named, path_is}
 use Rattle.lb_check.proofs.programs.OccurrenceSites.{own_site, site_is}
 use Rattle.lb_check.proofs.programs.TypedOccurrences.{IsVariable, occurrence_fits}
-use Rattle.lb_check.proofs.typing.PositiveTypes.{width_positive}
+use Rattle.lb_check.{proofs.typing.PositiveTypes.width_positive, specs.Clocks.Base}
+use Rattle.{lb_check.specs.Needs.given_at, lb_static.proofs.Members.filter_in}
+use Rattle.lb_static.specs.Names.{is_callable, is_known, is_static_name, is_variable}
+use Rattle.{lb_static.specs.Parts.{node_names, node_static_names}, lb_syntax.specs.Tree.Sampling}
+use Rattle.std.proofs.{Common.zip, lemmas.Option.none-some}
 
 -- The variables that clocks of an accepted program wait for, as the whole program sees them, are
 -- variables of instances, each with a first element.
@@ -38,8 +37,7 @@ use Rattle.lb_check.proofs.typing.PositiveTypes.{width_positive}
 
 among_in : (x : Name) (xs : List Name) → among x xs ≡ true → In x xs
 among_in x [] e = absurd cc
-among_in x (y ∷ xs) e =
-    grind (arith, among_in x xs, (bytes_eq-Decides x y).0)
+among_in x (y ∷ xs) e = grind (arith, among_in x xs, (bytes_eq-Decides x y).0)
 
 pub zip_first : {A B : Type 0} (xs : List A) (ys : List B) (t : A × B) → In t (zip xs ys) → In
     t.0 xs
@@ -115,8 +113,7 @@ module _ (P : Program) (accepted : static_refusal P ≡ None) where
           let sites = and_second (declares_once P n) _ named in
           let names = and_second (list_all (is_callable P) (node_sites n)) _ sites in
           let statics = and_second (list_all (is_known P n) (node_names n)) _ names in
-          let rules =
-          and_second (list_all (is_static_name P n) (node_static_names n)) _ statics in
+          let rules = and_second (list_all (is_static_name P n) (node_static_names n)) _ statics in
           among_in x (variable_names here.node)
           (all_in (is_variable P here.node)
           (clock_names here.node ++ flat_map left_names here.node.body) x rules

@@ -1,27 +1,27 @@
 -- The calls in the text of an instance: their occurrences, their instances, and what passes to
 -- these.
 use Rattle.lb_check.proofs.Words
-use Words.{◌&&◌, slice_get, list_all, same_Some, In, some_of, Node_named, Expr, Call, Iterate}
-use Words.{Statement, and_first, and_second, variables, Program, Instance, Site, statement_sites}
-use Words.{node_sites, numbered_sites, node_named, instances, check_refusal, Occurrence}
-use Words.{node_occurrences, is_clock_typed, is_statement_typed, is_typed, zero, ◌<◌, IfSome}
-use Words.{range_with_len, Every, either_or, listed, Root, Observer, instance_count, callee_of}
-use Words.{instance_at, site_instances, children, instances_from, is_some, zip, ◌>>=◌, all_some}
-use Words.{Static, Node, all_in, Child, static_value, static_refusal, node_parts, node_sizes}
-use Words.{in_map, ◌≡◌, ℕ, suc, ◌+◌, true, Option, Some, None, option_map, List, [], ◌∷◌, ◌++◌}
-use Words.{length, map, flat_map, refl, ap, ap₂, sym, ◌∙◌, subst, arith, ℤ}
-use Rattle.{lb_static.specs.Parts.node_indexes}
-use Rattle.lb_static.{specs.Parts.{node_statics, own_arguments}, proofs.Members.from_all}
-use Rattle.lb_check.proofs.clocking.NamedClocks.{if_some, count_of}
-use Rattle.lb_check.proofs.{definitions.BrokenRules.instantiation_kept, lists.Members.some_in}
-use Rattle.lb_check.proofs.lists.Members.{Every-from, Every-map, Every-both, Every-append}
-use Rattle.lb_check.proofs.lists.Members.{Every-first, Every-second, Every-piece, Every-of_pieces}
-use Rattle.lb_check.proofs.lists.Members.{Every-found, Every-of_range, in_second, Every-at}
-use Rattle.lb_check.proofs.{lists.Members.to_pieces, programs.AcceptedRules.{typed, valued}}
-use Rattle.lb_check.proofs.programs.InstancePaths.{numbered_in, child_in, kept_children}
-use Rattle.lb_check.proofs.programs.OccurrenceParts.{of_body, node_occurrence_parts}
-use Rattle.lb_check.proofs.programs.OccurrenceSites.{own_site, numbered_append, body_occurrences}
-use Rattle.lb_check.proofs.{programs.OccurrenceSites.site_is, typing.OperandTypes.{one}}
+use Words.{Call, Child, Every, Expr, IfSome, In, Instance, Iterate, List, Node, Node_named, None}
+use Words.{Observer, Occurrence, Option, Program, Root, Site, Some, Statement, Static, [], all_in}
+use Words.{all_some, and_first, and_second, ap, ap₂, arith, callee_of, check_refusal, children}
+use Words.{either_or, flat_map, in_map, instance_at, instance_count, instances, instances_from}
+use Words.{is_clock_typed, is_some, is_statement_typed, is_typed, list_all, listed, map, node_named}
+use Words.{node_occurrences, node_parts, node_sites, node_sizes, numbered_sites, option_map}
+use Words.{range_with_len, refl, same_Some, site_instances, slice_get, some_of, statement_sites}
+use Words.{static_refusal, static_value, subst, suc, sym, true, variables, zero, zip, ℕ, ℤ, ◌&&◌}
+use Words.{◌++◌, ◌+◌, ◌<◌, ◌>>=◌, ◌∙◌, ◌∷◌, ◌≡◌}
+use Rattle.lb_check.proofs.clocking.NamedClocks.{count_of, if_some}
+use Rattle.lb_check.proofs.{definitions.BrokenRules.instantiation_kept, lists.Members.Every-append}
+use Rattle.lb_check.proofs.lists.Members.{Every-at, Every-both, Every-first, Every-found}
+use Rattle.lb_check.proofs.lists.Members.{Every-from, Every-map, Every-of_pieces, Every-of_range}
+use Rattle.lb_check.proofs.lists.Members.{Every-piece, Every-second, in_second, some_in, to_pieces}
+use Rattle.lb_check.proofs.programs.{AcceptedRules.{typed, valued}, InstancePaths.child_in}
+use Rattle.lb_check.proofs.programs.InstancePaths.{kept_children, numbered_in}
+use Rattle.lb_check.proofs.programs.OccurrenceParts.{node_occurrence_parts, of_body}
+use Rattle.lb_check.proofs.programs.OccurrenceSites.{body_occurrences, numbered_append, own_site}
+use Rattle.lb_check.proofs.{programs.OccurrenceSites.site_is, typing.OperandTypes.one}
+use Rattle.lb_static.{proofs.Members.from_all, specs.Parts.{node_indexes, node_statics}}
+use Rattle.lb_static.specs.Parts.{own_arguments}
 
 -- In an accepted program each call in the text of an instance is an occurrence, at the number of
 -- its site.
@@ -50,12 +50,6 @@ calls_append (o ∷ os) os' =
     one_before (own_call o) (map own_call (os ++ os')) (map own_call os) (calls_among os')
     (calls_append os os')
 
-joined_calls :
-    (n : ℕ) (os os' : List Occurrence) (ss ts : List Site) → AreCallsOf n os ss →
-    AreCallsOf (n + length ss) os' ts → AreCallsOf n (os ++ os') (ss ++ ts)
-joined_calls n os os' ss ts h g =
-    calls_append os os' ∙ ap₂ (λ xs ys. xs ++ ys) h g ∙ sym (numbered_append n ss ts)
-
 first_call :
     (n : ℕ) (s : Site) (os : List Occurrence) (ss : List Site) → AreCallsOf (n + 1) os ss →
     (n, s) ∷ calls_among os ≡ numbered_sites n (s ∷ ss)
@@ -76,7 +70,8 @@ body_calls P here n ss e =
     of_body P here (λ n os es ss. AreCallsOf n os ss) (λ n. refl)
     (λ k n e os es ss is h. ap (with_own n os) is ∙ h)
     (λ k n e s os es ss is h. ap (with_own n os) is ∙ first_call n s os ss h)
-    (λ n os ps es fs ss ts h g. joined_calls n os ps ss ts h g) n ss e
+    (λ n os ps es fs ss ts h g. calls_append os ps ∙ ap₂ (λ xs ys. xs ++ ys) h g
+    ∙ sym (numbered_append n ss ts)) n ss e
 
 -- the occurrence of the call with number `n` and site `s`
 pub record IsCallAt (P : Program) (here : Instance) (n : ℕ) (s : Site) : Type 0 where

@@ -1,39 +1,36 @@
 -- The streams of solutions of an accepted program: their instants, and histories that share them.
 use Rattle.lb_check.proofs.Words
-use Words.{◌≡◌, ℕ, zero, suc, ◌+◌, ◌<◌, true, Option, Some, None, List, [], ◌∷◌, length, map}
-use Words.{replicate, refl, ap, ap₂, sym, ◌∙◌, subst, arith, IfSome, ArrayIterator, Map, Red, Fill}
-use Words.{Every, Name, Static, Node_named, Symbol, Expr, Call, Iterate, Exprs, Nil, Cons}
-use Words.{Declaration, Node, Statement, Equation, Assertion, Program, Instance, Path, Root}
-use Words.{Observer, Child, node_sites, node_named, static_count, instance_at, instances, variables}
-use Words.{instantiation_refusal, static_refusal, check_refusal, are_declared_clocks, is_clocked}
-use Words.{Clock, declared_clock, base_clock, argument_clocks, Occurrence, at, call_count}
-use Words.{call_clocks, statements, node_occurrences, Inputs, Solves, AgreeAt, AreSame, is_typed}
-use Words.{operator_types, Bool, false, length-replicate, bytes_eq-Decides, same_Some, Kind, ◌>>=◌}
-use Words.{zip2, either_or, and_second, Site, call_site, instance_count, callee_of, named, On}
-use Words.{sampled, clock_within, variable_clock, clock_or, signed, History, presence, all_streams}
-use Words.{number}
-use Rattle.{lb_syntax.specs.{Lists.part, Tree.Sampling}, lb_check.specs.Clocks.Base}
-use Rattle.lb_check.specs.{Scalars.{Stream, is_of_kind}, Solutions.{IsIteratorJoined, IsCallJoined}}
-use Rattle.lb_check.specs.Solutions.{IsJoinedAt, IsJoined, fits, Fits, variable_presence, SolvesAt}
-use Rattle.lb_check.specs.Solutions.{Receives, accumulated, iterator_inputs, AreEqual, columns_at}
-use Rattle.lb_check.specs.{Solutions.{IsObserved, IsGiven}, Streams.argument_streams}
-use Rattle.lb_check.proofs.clocking.NamedClocks.{OfCalled, Sited, IsOver, declared_over, base_over}
-use Rattle.lb_check.proofs.clocking.NamedClocks.{named_every}
-use Rattle.lb_check.proofs.clocking.OwnClocks.{more_steps}
-use Rattle.lb_check.proofs.{definitions.BrokenRules.instantiation_kept, lists.Members.Every-map}
-use Rattle.lb_check.proofs.{programs.StandingParts.node_stands, typing.OperandTypes.bound}
-use Rattle.lb_check.proofs.lists.Members.{Every-both, Every-append, Every-first, Every-second}
-use Rattle.lb_check.proofs.lists.Members.{Every-range, Every-of_range, flat_same, Every-at}
-use Rattle.lb_check.proofs.programs.AcceptedRules.{all_typed, all_clocked, all_declared, calls_have}
+use Words.{AgreeAt, AreSame, ArrayIterator, Assertion, Bool, Call, Child, Clock, Cons, Declaration}
+use Words.{Equation, Every, Expr, Exprs, Fill, History, IfSome, Inputs, Instance, Iterate, Kind}
+use Words.{List, Map, Name, Nil, Node, Node_named, None, Observer, Occurrence, On, Option, Path}
+use Words.{Program, Red, Root, Site, Solves, Some, Statement, Static, Symbol, [], all_streams}
+use Words.{and_second, ap, ap₂, are_declared_clocks, argument_clocks, arith, at, base_clock}
+use Words.{bytes_eq-Decides, call_clocks, call_count, call_site, callee_of, check_refusal, clock_or}
+use Words.{clock_within, declared_clock, either_or, false, instance_at, instance_count, instances}
+use Words.{instantiation_refusal, is_clocked, is_typed, length, length-replicate, map, named}
+use Words.{node_named, node_occurrences, node_sites, number, operator_types, presence, refl}
+use Words.{replicate, same_Some, sampled, signed, statements, static_count, static_refusal, subst}
+use Words.{suc, sym, true, variable_clock, variables, zero, zip2, ℕ, ◌+◌, ◌<◌, ◌>>=◌, ◌∙◌, ◌∷◌, ◌≡◌}
+use Rattle.lb_check.proofs.clocking.NamedClocks.{IsOver, OfCalled, Sited, base_over, declared_over}
+use Rattle.lb_check.proofs.clocking.{NamedClocks.named_every, OwnClocks.more_steps}
+use Rattle.lb_check.proofs.{definitions.BrokenRules.instantiation_kept, lists.Members.Every-append}
+use Rattle.lb_check.proofs.lists.Members.{Every-at, Every-both, Every-first, Every-map}
+use Rattle.lb_check.proofs.lists.Members.{Every-of_range, Every-range, Every-second, flat_same}
+use Rattle.lb_check.proofs.programs.AcceptedRules.{all_clocked, all_declared, all_typed, calls_have}
 use Rattle.lb_check.proofs.programs.{InstancePaths.{callee_node, path_is}, OccurrenceSites.own_site}
-use Rattle.lb_check.proofs.programs.SameHistories.{all_called, entered, called_same, starts_agree}
-use Rattle.lb_check.proofs.programs.SameHistories.{callee_path, started, StatementsStand}
-use Rattle.lb_check.proofs.programs.{Operands.{OnEach}, SameStreams.{Same, IsSame, presence_same}}
-use Rattle.lb_check.proofs.programs.SameStreams.{same_streams, all_same, StandsHere, known}
-use Rattle.lb_check.proofs.programs.SameStreams.{streams_same, operands}
-use Rattle.lb_check.proofs.programs.SiteOccurrences.{Passes, IsPassed, inherited}
-use Rattle.lb_check.proofs.programs.StandingParts.{Stands}
-use Rattle.lb_check.proofs.typing.OperandTypes.{called, placed}
+use Rattle.lb_check.proofs.programs.{Operands.OnEach, SameHistories.{StatementsStand, all_called}}
+use Rattle.lb_check.proofs.programs.SameHistories.{called_same, callee_path, entered, started}
+use Rattle.lb_check.proofs.programs.{SameHistories.starts_agree, SameStreams.{IsSame, Same}}
+use Rattle.lb_check.proofs.programs.SameStreams.{StandsHere, all_same, known, operands}
+use Rattle.lb_check.proofs.programs.SameStreams.{presence_same, same_streams, streams_same}
+use Rattle.lb_check.proofs.programs.SiteOccurrences.{IsPassed, Passes, inherited}
+use Rattle.lb_check.proofs.{programs.StandingParts.{Stands, node_stands}, typing.OperandTypes.bound}
+use Rattle.lb_check.{proofs.typing.OperandTypes.{called, placed}, specs.Clocks.Base}
+use Rattle.lb_check.specs.{Scalars.{Stream, is_of_kind}, Solutions.{AreEqual, Fits, IsCallJoined}}
+use Rattle.lb_check.specs.Solutions.{IsGiven, IsIteratorJoined, IsJoined, IsJoinedAt, IsObserved}
+use Rattle.lb_check.specs.Solutions.{Receives, SolvesAt, accumulated, columns_at, fits}
+use Rattle.lb_check.specs.{Solutions.{iterator_inputs, variable_presence}, Streams.argument_streams}
+use Rattle.lb_syntax.specs.{Lists.part, Tree.Sampling}
 
 -- A history with the same streams as a solution of an accepted program, whose starts run at every
 -- instant, solves the program too.
@@ -262,8 +259,7 @@ module _ (P : Program) (H G : History) (here : Instance) (agree : AgreeAt H G he
 root_path : (P : Program) (c : Instance) → instance_at P Root ≡ Some c → c.path ≡ Root
 root_path P c e = started P Root P.root c e
 
-observer_path : (P : Program) (c : Instance) → instance_at P Observer ≡ Some c →
-    c.path ≡ Observer
+observer_path : (P : Program) (c : Instance) → instance_at P Observer ≡ Some c → c.path ≡ Observer
 observer_path P c e =
     let f = bound P.observer _ c e in
     started P Observer f.value c f.gives
@@ -575,12 +571,6 @@ module _ (P : Program) (elaborated : static_refusal P ≡ None) (checked : check
       ap (λ q. length (H.ticks q)) (path_is P p c is) ∙ ap length runs
       ∙ length-replicate (length X) true
 
-  -- each instance has the instants of the trace
-  pub instances_long : Every IsLongInstance (instances P)
-  instances_long =
-      inherited P IsLongInstance all_pass (start_long Root h.root_runs)
-      (start_long Observer h.observer_runs)
-
   -- the clock of each variable has the instants of the trace
   pub presence_long :
       Every (λ here.
@@ -595,4 +585,5 @@ module _ (P : Program) (elaborated : static_refusal P ≡ None) (checked : check
       z.0.variables)
       (instances P)
       (Every-both (SolvesAt P H) (λ c. length (H.ticks c.path) ≡ length X) (instances P)
-      h.instances instances_long)
+      h.instances (inherited P IsLongInstance all_pass (start_long Root h.root_runs)
+      (start_long Observer h.observer_runs)))

@@ -175,11 +175,6 @@ module _ (P : Program) (here : Instance) (V : Name → Type 0)
           row_stands k (n + 1) es t s.over s.lawful.1 (sited_after _ n (sites_in es) s.sited.1)
       by (Iterate it (Symbol op) m es) s t = row_stands k n es t s.over s.lawful.1 s.sited
 
-  -- each part of an expression stands, where the expression does
-  parts_stand : (k : Clock) (n : ℕ) (e : Expr) → Stands (at k n e) →
-      AllStand (occurrences P here.node k n e)
-  parts_stand k n e s = on_parts P here.node Stands operands_stand k n e s
-
   -- ## Statements
 
   -- each left variable is one of the node, and has `V`
@@ -245,7 +240,8 @@ module _ (P : Program) (here : Instance) (V : Name → Type 0)
       let later = body_stands m ss (and_second (is_statement_typed P here s) _ typed)
       (aft P here Q oa ob h)
       (sited_second _ n (statement_sites s) (flat_map statement_sites ss) w) in
-      (Every-append Stands oa ob (parts_stand k n (right_side s) first.0) later.0, (first, later.1))
+      (Every-append Stands oa ob (on_parts P here.node Stands operands_stand k n (right_side s)
+      first.0) later.0, (first, later.1))
 
   -- the parts and the statements of a node that keeps the rules stand
   pub node_stands :

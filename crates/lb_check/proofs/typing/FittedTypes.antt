@@ -1,26 +1,25 @@
 -- What the code reads of a specialization and its callees is what the definitions say of them.
 use Rattle.lb_check.proofs.Words
-use Words.{node_named, ◌≡◌, ℕ, List, [], ◌∷◌, ◌++◌, length, map, take, drop, Option, Some, None}
-use Words.{refl, ap, sym, ◌∙◌, ℤ, drop-map, length-map, ◌>>=◌, all_some, Name, Node, ResolvedNode}
-use Words.{instance_of, Program, Instance, Path, Child, Site, static_value, callee_of, call_site}
-use Words.{variable_names, IsResolved, node_of, statics_of, DataType, variables, variable_type}
-use Words.{input_types, output_types, declared_type, declared_types, CallTypes, call_types_of, ◌<◌}
-use Words.{subst, arith, option_map, slice_get, slice_get-map, slice_get_within}
-use Words.{get_or_from_slice_get, either_or, Node_named, item_at, Reached, CallId, Specialization}
-use Words.{Table, Root, node_sites, IsReached, source_names, site_at, no_site, operator_types}
-use Words.{callee_types, call_types_at, zero, suc, true, false, not, bytes_eq, bytes_eq-Decides}
-use Words.{not-true, zip2, Static, Whole, Declaration, and_first, and_second, or_first, or_second}
-use Words.{StaticId, static_count, are_distinct, among, declaration_of, static_at, named, natural}
-use Words.{count_at, nat_lt, all_at, CallSite, VariableId, name_value, counts_of, name_at, site_of}
-use Words.{named_value, is_variable, is_static, is_call, is_no_variable, are_statics, constant_type}
-use Words.{data_types, name_data_type, singly, type_of_name, constant_at, repeats_of, IsTable}
-use Words.{specialized_at, Declared}
-use Rattle.{std.proofs.lemmas.List.take-map, lb_syntax.specs.Tree.{Named}}
-use Rattle.{lb_static.specs.InstanceTable.IsSpecialized}
-use Rattle.lb_static.specs.ResolvedTerms.{static_of, is_count_within, is_site_within}
-use Rattle.lb_static.proofs.DeclaredTypes.{types_are, declared_is}
-use Rattle.lb_check.{specs.TermTypes.{variable_at, repeats_at}, proofs.lists.Members.not_among}
-use Rattle.lb_check.proofs.lists.Members.{held_at, unequal}
+use Words.{CallId, CallSite, CallTypes, Child, DataType, Declaration, Declared, Instance, IsReached}
+use Words.{IsResolved, IsTable, List, Name, Node, Node_named, None, Option, Path, Program, Reached}
+use Words.{ResolvedNode, Root, Site, Some, Specialization, Static, StaticId, Table, VariableId}
+use Words.{Whole, [], all_at, all_some, among, and_first, and_second, ap, are_distinct, are_statics}
+use Words.{arith, bytes_eq, bytes_eq-Decides, call_site, call_types_at, call_types_of, callee_of}
+use Words.{callee_types, constant_at, constant_type, count_at, counts_of, data_types}
+use Words.{declaration_of, declared_type, declared_types, drop, drop-map, either_or, false}
+use Words.{get_or_from_slice_get, input_types, instance_of, is_call, is_no_variable, is_static}
+use Words.{is_variable, item_at, length, length-map, map, name_at, name_data_type, name_value}
+use Words.{named, named_value, nat_lt, natural, no_site, node_named, node_of, node_sites, not}
+use Words.{not-true, operator_types, option_map, or_first, or_second, output_types, refl}
+use Words.{repeats_of, singly, site_at, site_of, slice_get, slice_get-map, slice_get_within}
+use Words.{source_names, specialized_at, static_at, static_count, static_value, statics_of, subst}
+use Words.{suc, sym, take, true, type_of_name, variable_names, variable_type, variables, zero, zip2}
+use Words.{ℕ, ℤ, ◌++◌, ◌<◌, ◌>>=◌, ◌∙◌, ◌∷◌, ◌≡◌}
+use Rattle.lb_check.{proofs.lists.Members.{held_at, not_among, unequal}, specs.TermTypes.repeats_at}
+use Rattle.{lb_check.specs.TermTypes.variable_at, lb_static.proofs.DeclaredTypes.declared_is}
+use Rattle.lb_static.{proofs.DeclaredTypes.types_are, specs.InstanceTable.IsSpecialized}
+use Rattle.lb_static.specs.ResolvedTerms.{is_count_within, is_site_within, static_of}
+use Rattle.{lb_syntax.specs.Tree.Named, std.proofs.lemmas.List.take-map}
 
 -- The types of the inputs and of the outputs of a callee.
 

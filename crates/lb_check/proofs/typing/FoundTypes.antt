@@ -1,24 +1,23 @@
 -- The types that are found and kept of the terms of a specialization.
 use Rattle.lb_check.proofs.Words
-use Words.{◌≡◌, ℕ, zero, suc, ◌+◌, ◌-◌, ◌<◌, ◌≤◌, min, Some, None, List, [], ◌∷◌, ◌++◌, map}
-use Words.{flat_map, take, drop, length, get_or, refl, ap, ap₂, sym, ◌∙◌, subst, arith, slice_get}
-use Words.{sum_by, append_assoc, append-nil, length-append, reverse-append, ◌>>=◌, either_or}
-use Words.{listed, tail_of, Expr, Kind, DataType, int, product, total, Program, Instance}
-use Words.{node_parts, HasTypes, FoundNode, FoundTypes, found_in, part_size, parts_of, size_of}
-use Words.{with_term, expression_size, data_types, only, NodeTypes, TermType, Option, Vec, Global}
-use Words.{same_Some, mapped_from, elaborated_program, IsLawful, IsTable, instance_of}
-use Words.{specialized_at, Path, parts, right_side, IsReached, source_names, IsResolved, counts_of}
-use Words.{node_of, texts_of, Elaboration, Reached, ResolvedNode, Specialization, Table, IsJudged}
-use Words.{false, is_small, reverse, sum_by-cons, sum_by_more, found_of, node_types}
-use Words.{specialization_types, ◌≢◌, Kept, map-append}
-use Rattle.std.proofs.Math.Seq.{drop-append_seam, take-append_seam}
-use Rattle.{std.proofs.lemmas.List.{take_all, take_more}, lb_static.proofs.TypeViews.product_reverse}
-use Rattle.lb_check.specs.{FoundTerms.HasFoundTypes, PlacedTypes.{nothing_found, type_among}}
-use Rattle.lb_check.specs.{PlacedTypes.{sizes_of, with_terms, AreFound, AreKept}, Streams.data_type}
-use Rattle.lb_check.{specs.TermTypes.context_of, proofs.definitions.BrokenRules.judged}
+use Words.{DataType, Expr, FoundNode, FoundTypes, Global, HasTypes, Instance, IsJudged, IsReached}
+use Words.{IsResolved, IsTable, Kept, Kind, List, NodeTypes, None, Option, Path, Program, Reached}
+use Words.{ResolvedNode, Some, Specialization, Table, TermType, Vec, [], ap, append-nil}
+use Words.{append_assoc, ap₂, arith, counts_of, data_types, drop, either_or, expression_size, false}
+use Words.{flat_map, found_in, found_of, get_or, instance_of, int, is_small, length, length-append}
+use Words.{listed, map, map-append, mapped_from, min, node_of, node_parts, node_types, only}
+use Words.{part_size, parts, parts_of, product, refl, reverse, reverse-append, right_side}
+use Words.{same_Some, size_of, slice_get, source_names, specialization_types, specialized_at, subst}
+use Words.{suc, sum_by, sum_by-cons, sum_by_more, sym, tail_of, take, texts_of, total, with_term}
+use Words.{zero, ℕ, ◌++◌, ◌+◌, ◌-◌, ◌<◌, ◌>>=◌, ◌∙◌, ◌∷◌, ◌≡◌, ◌≢◌, ◌≤◌}
 use Rattle.lb_check.proofs.{lists.ListPairs.get_mapped, typing.FittedTypes.node_at}
 use Rattle.lb_check.proofs.typing.{FittedTypes.specialized_instance, MirroredTypes.statements_typed}
 use Rattle.lb_check.proofs.typing.{Specializations.too_large, TypedSpecializations.fits}
+use Rattle.lb_check.specs.{FoundTerms.HasFoundTypes, PlacedTypes.{AreFound, AreKept, nothing_found}}
+use Rattle.lb_check.specs.{PlacedTypes.{sizes_of, type_among, with_terms}, Streams.data_type}
+use Rattle.{lb_check.specs.TermTypes.context_of, lb_static.proofs.TypeViews.product_reverse}
+use Rattle.std.proofs.{Math.Seq.{drop-append_seam, take-append_seam}, lemmas.List.take_all}
+use Rattle.std.proofs.lemmas.List.{take_more}
 
 -- The types that are kept of terms give the type of each term.
 
@@ -81,8 +80,7 @@ kept_all : (os : List FoundTypes) → with_terms nothing_found os ≡ all_kept o
 kept_all os = kept nothing_found os
 
 -- the number of elements that is kept is the sum over all terms
-pub size_kept : (os : List FoundTypes) →
-    size_of (with_terms nothing_found os) ≡ sum_by part_size os
+pub size_kept : (os : List FoundTypes) → size_of (with_terms nothing_found os) ≡ sum_by part_size os
 size_kept os = ap size_of (kept_all os) ∙ by 0 os
   where
     by : (n : ℕ) (os : List FoundTypes) →
@@ -116,8 +114,7 @@ sizes_there before (p ∷ os) (suc i) o e =
 sizes_kept :
     (f : FoundNode) (os : List FoundTypes) (i : ℕ) (o : FoundTypes) →
     f ≡ with_terms nothing_found os → slice_get os i ≡ Some o → sizes_of f i ≡ sizes_in o
-sizes_kept f os i o is e =
-    ap (λ g. sizes_of g i) (is ∙ kept_all os) ∙ sizes_there [] os i o e
+sizes_kept f os i o is e = ap (λ g. sizes_of g i) (is ∙ kept_all os) ∙ sizes_there [] os i o e
 
 parts_kept :
     (f : FoundNode) (os : List FoundTypes) (i : ℕ) (o : FoundTypes) →
@@ -267,12 +264,6 @@ module _ (P : Program) (here : Instance) where
         sum_by-cons (expression_size P here) e es,
       )
 
-  pub size_within : (es : List Expr) →
-      size_of (with_terms nothing_found (rows_of es)) ≤ sum_by (expression_size P here) es
-  size_within es =
-      subst (λ (g : FoundNode). size_of g ≤ sum_by (expression_size P here) es)
-      (sym (kept_all (rows_of es))) (no_more 0 es)
-
 -- The types that the code finds of the terms of a specialization are those of the expressions of
 -- each of its instances.
 
@@ -317,7 +308,9 @@ module _ (P : Program) (r : Reached) (t : Table) (j : IsJudged P r t) where
       (subst (λ (os : List FoundTypes).
       size_of (with_terms nothing_found os) ≤ sum_by (expression_size P own) (node_parts own.node))
       (sym (of_specialization i s is known.0 known.1 p))
-      (size_within P own (node_parts own.node)))
+      (subst (λ (g : FoundNode). size_of g ≤ sum_by (expression_size P own) (node_parts own.node))
+      (sym (kept_all (rows_of P own (node_parts own.node)))) (no_more P own 0
+      (node_parts own.node))))
 
   -- the found types of all specializations are those of the expressions of their instances
   pub types_here : (found : Option (Vec NodeTypes Global)) → AreFound r t found →
@@ -348,15 +341,6 @@ types_lent P r t reached table found has i s there p here e =
     (sym (specialized_instance P r t reached table s known.0 p known.1) ∙ e) in
     let f = has i s known.0 there known.1 in
     (f.0, f.1, subst (λ (c : Instance). HasTypes P c f.0) same (f.2 p))
-
--- the types that are found of an elaborated program are right
-pub types_found_here :
-    (e : Elaboration) (r : Reached) (t : Table) (found : Option (Vec NodeTypes Global)) →
-    IsLawful e → r ≡ e.reached → t ≡ e.table → AreFound r t found →
-    HasFoundTypes (elaborated_program e) e.reached e.table found
-types_found_here e r t found is same rows kept =
-    types_here (elaborated_program e) e.reached e.table (judged (elaborated_program e) e is) found
-    (subst (λ r. AreFound r e.table found) same (subst (λ t. AreFound r t found) rows kept))
 
 -- The types of terms that a checked program lends, as the layer above reads them: number by number.
 

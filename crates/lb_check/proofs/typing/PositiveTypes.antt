@@ -1,40 +1,36 @@
 -- In an accepted program no size is 0, so each variable and each part has an element.
 use Rattle.lb_check.proofs.Words
-use Words.{◌≡◌, ℕ, zero, suc, ◌*◌, ◌<◌, true, Option, Some, None, List, [], ◌∷◌, map, flat_map}
-use Words.{arith, ◌&&◌, nat_le, nat_tests, Every, In, holds, either_or, all_some, Static}
-use Words.{Declaration, all_in, and_first, product, element_count, variables, width, Program}
-use Words.{Instance, static_count, instances, static_refusal, is_between, node_sizes, node_parts}
-use Words.{from_two, inl, inr, ◌+◌, ◌≤◌, ◌++◌, refl, ap, sym, ◌∙◌, subst, length, list_all}
-use Words.{bytes_eq, sum_by-cons, same_Some, ◌>>=◌, tail_of, where_true, Name, Node_named, Symbol}
-use Words.{Expr, Group, Unary, Binary, If, Arrow, Fby, Pre, Current, When, Replicate, Index, Slice}
-use Words.{Join, Array, AtMostOne, Nor, Call, Iterate, Exprs, Nil, Cons, Statement, ArrayIterator}
-use Words.{Map, Red, Fill, BinaryOperator, UnaryOperator, is_int, DataType, int, truth, is_type}
-use Words.{variable_type, total, Child, Site, instance_count, name_value, parts, parts_in}
-use Words.{right_side, named, map_in, check_refusal, node_occurrences, part_count, expression_size}
-use Words.{is_small, size, constant_type, data_types, all_types, only, singly, name_data_type}
-use Words.{from_one, from_truths, unary_type, binary_type, common_type, array_of, index_type}
-use Words.{slice_type, join_type, list_type, iterator_types, operator_types, min, slice_get, in_at}
-use Words.{HasTypes, found_in, parts_of, NodeTypes, ℤ, pos, sum_by, option_map, reverse}
-use Rattle.{std.proofs.Math.Nat.suc-mul, lb_syntax.specs.Tree.{Literal, Truth, Variable}}
-use Rattle.{lb_static.specs.Parts.{declared_sizes, own_sizes}, lb_check.specs.Types.element_of}
-use Rattle.lb_check.{proofs.definitions.BrokenRules.instantiation_kept}
-use Rattle.lb_check.proofs.lists.Members.{in_first, to_pieces, Every-at, Every-from, Every-reverse}
-use Rattle.lb_check.proofs.{lists.Members.{in_second, Every-append}, programs.AcceptedRules.typed}
-use Rattle.lb_check.proofs.programs.{AcceptedRules.valued, OccurrenceParts.node_occurrence_parts}
-use Rattle.lb_check.proofs.programs.{InstancePaths.find_in, OccurrenceSites.own_site}
-use Rattle.lb_check.proofs.programs.{SameHistories.IsEntered, SameHistories.all_entered}
-use Rattle.lb_check.proofs.programs.{SiteOccurrences.instance_there}
+use Words.{Array, ArrayIterator, Arrow, AtMostOne, Binary, BinaryOperator, Call, Child, Cons}
+use Words.{Current, DataType, Declaration, Every, Expr, Exprs, Fby, Fill, Group, HasTypes, If, In}
+use Words.{Index, Instance, Iterate, Join, List, Map, Name, Nil, NodeTypes, Node_named, None, Nor}
+use Words.{Option, Pre, Program, Red, Replicate, Site, Slice, Some, Statement, Static, Symbol}
+use Words.{Unary, UnaryOperator, When, [], all_in, all_some, all_types, and_first, ap, arith}
+use Words.{array_of, binary_type, bytes_eq, check_refusal, common_type, constant_type, data_types}
+use Words.{either_or, element_count, expression_size, flat_map, found_in, from_one, from_truths}
+use Words.{from_two, holds, in_at, index_type, inl, inr, instance_count, instances, int, is_between}
+use Words.{is_int, is_small, is_type, iterator_types, join_type, length, list_all, list_type, map}
+use Words.{map_in, min, name_data_type, name_value, named, nat_le, nat_tests, node_occurrences}
+use Words.{node_parts, node_sizes, only, operator_types, option_map, part_count, parts, parts_in}
+use Words.{parts_of, pos, product, refl, reverse, right_side, same_Some, singly, size, slice_get}
+use Words.{slice_type, static_count, static_refusal, subst, suc, sum_by, sum_by-cons, sym, tail_of}
+use Words.{total, true, truth, unary_type, variable_type, variables, where_true, width, zero, ℕ}
+use Words.{◌&&◌, ◌*◌, ◌++◌, ◌+◌, ◌<◌, ◌>>=◌, ◌∙◌, ◌∷◌, ◌≡◌, ◌≤◌}
+use Rattle.lb_check.proofs.{definitions.BrokenRules.instantiation_kept, lists.Members.Every-append}
+use Rattle.lb_check.proofs.lists.Members.{Every-at, Every-from, Every-reverse, in_first, in_second}
+use Rattle.lb_check.proofs.{lists.Members.to_pieces, programs.AcceptedRules.{typed, valued}}
+use Rattle.lb_check.proofs.programs.{InstancePaths.find_in, OccurrenceParts.node_occurrence_parts}
+use Rattle.lb_check.proofs.programs.{OccurrenceSites.own_site, SameHistories.IsEntered}
+use Rattle.lb_check.proofs.programs.{SameHistories.all_entered, SiteOccurrences.instance_there}
 use Rattle.lb_check.proofs.typing.OperandTypes.{alone, bound, called, first_of, first_of_all}
 use Rattle.lb_check.proofs.typing.OperandTypes.{from_true, one, placed, truly, two}
+use Rattle.{lb_check.specs.Types.element_of, lb_static.specs.Parts.{declared_sizes, own_sizes}}
+use Rattle.{lb_syntax.specs.Tree.{Literal, Truth, Variable}, std.proofs.Math.Nat.suc-mul}
 
 -- In an accepted program each variable has an element, since no size is 0.
 
 pub positive_times : (n m : ℕ) → 0 < n → 0 < m → 0 < n * m
 positive_times zero m p q = absurd (omega arith)
 positive_times (suc n) m p q = let e = suc-mul n m in omega (arith, q, e)
-
-pub at_least_one : (n : ℕ) → nat_le 1 n ≡ true → 0 < n
-at_least_one n e = grind (arith, nat_tests)
 
 module _ (P : Program) (here : Instance) where
   -- a size has a value, which is not 0
@@ -45,8 +41,7 @@ module _ (P : Program) (here : Instance) where
       (ss : List Static) → Every IsPositive ss →
       0 < either_or (option_map product (all_some (map (static_count P here) ss))) 0
   sizes_positive [] h = omega arith
-  sizes_positive (s ∷ ss) h =
-      grind (arith, nat_tests, positive_times, sizes_positive ss h.1, h.0)
+  sizes_positive (s ∷ ss) h = grind (arith, nat_tests, positive_times, sizes_positive ss h.1, h.0)
 
   width_of :
       (d : Declaration) (o : Option (List ℕ)) → 0 < either_or (option_map product o) 0 →
@@ -112,10 +107,10 @@ common_wide s t u e w = subst IsWide (truly _ t u e).same w
 array_wide : (n : ℕ) (t u : DataType) → array_of n t ≡ Some u → IsWide t → IsWide u
 array_wide n t u e w =
     let i = truly (nat_le 1 n && nat_le n 4096) _ u e in
-    subst IsWide i.same (at_least_one n (and_first (nat_le 1 n) (nat_le n 4096) i.holds), w)
+    subst IsWide i.same
+    (grind (arith, nat_tests, and_first (nat_le 1 n) (nat_le n 4096) i.holds), w)
 
-element_wide :
-    (t : DataType) (a : ℕ × DataType) → element_of t ≡ Some a → IsWide t → IsWide a.1
+element_wide : (t : DataType) (a : ℕ × DataType) → element_of t ≡ Some a → IsWide t → IsWide a.1
 element_wide t a e w = grind arith
 
 index_wide : (i : ℕ) (t u : DataType) → index_type i t ≡ Some u → IsWide t → IsWide u
@@ -182,10 +177,6 @@ module _ (P : Program) (accepted : static_refusal P ≡ None) where
 
   module _ (checked : check_refusal P ≡ None) (here : Instance)
       (stands : In here (instances P)) where
-    -- the type of a literal, a static parameter or a constant has no length 0
-    constant_wide : (o : Option ℤ) (t : DataType) → constant_type o ≡ Some t → IsWide t
-    constant_wide o t e = subst IsWide (truly (holds is_int o) int t e).same tt
-
     symbol_wide : (op : BinaryOperator) (types : List DataType × List DataType) →
         operator_types P here (Symbol op) ≡ Some types → AreWide types.1
     symbol_wide op types e = grind arith
@@ -196,7 +187,7 @@ module _ (P : Program) (accepted : static_refusal P ≡ None) where
         by : (o : Option Declaration) → named (λ d. d.name) x (variables here.node) ≡ o →
             either_or (option_map (variable_type P here) o) (constant_type (name_value P here x))
             ≡ Some t → IsWide t
-        by None is e = constant_wide (name_value P here x) t e
+        by None is e = subst IsWide (truly (holds is_int (name_value P here x)) int t e).same tt
         by (Some d) is e =
             variable_wide here stands d
             (find_in (λ d. bytes_eq d.name x) (variables here.node) d is) t e
@@ -266,7 +257,8 @@ module _ (P : Program) (accepted : static_refusal P ≡ None) where
           AreWide ts
       positive (Literal m) on ts e =
           let a = alone (constant_type (Some (pos m))) ts e in
-          one_wide ts a.data_type a.all (constant_wide (Some (pos m)) a.data_type a.is)
+          one_wide ts a.data_type a.all (subst IsWide (truly (holds is_int (Some (pos m))) int
+          a.data_type a.is).same tt)
       positive (Truth b) on ts e = subst AreWide (same_Some (truth ∷ []) ts e) (tt, tt)
       positive (Variable x) on ts e =
           let a = alone (name_data_type P here x) ts e in
@@ -289,8 +281,7 @@ module _ (P : Program) (accepted : static_refusal P ≡ None) where
       positive (Fby a b) on ts e =
           later_wide a b
           (λ us f. positive b (λ x l. on x (inr (in_second x (parts a) (parts b) l))) us f) ts e
-      positive (Pre a) on ts e =
-          same_wide a (λ us f. positive a (λ x l. on x (inr l)) us f) ts e
+      positive (Pre a) on ts e = same_wide a (λ us f. positive a (λ x l. on x (inr l)) us f) ts e
       positive (Current a) on ts e =
           same_wide a (λ us f. positive a (λ x l. on x (inr l)) us f) ts e
       positive (When a y sign) on ts e =
@@ -325,8 +316,7 @@ module _ (P : Program) (accepted : static_refusal P ≡ None) where
           (all_positive es (λ x l. on x (inr l)) b.value b.is))
       positive (AtMostOne es) on ts e =
           one_wide ts truth (from_true (all_types P here es) ts e).all tt
-      positive (Nor es) on ts e =
-          one_wide ts truth (from_true (all_types P here es) ts e).all tt
+      positive (Nor es) on ts e = one_wide ts truth (from_true (all_types P here es) ts e).all tt
       positive (Call f statics es) on ts e =
           let t = bound (operator_types P here (Node_named f statics)) _ ts e in
           let a = bound (all_types P here es) _ ts t.gives in
@@ -403,16 +393,14 @@ module _ (P : Program) (accepted : static_refusal P ≡ None) where
       each_wide (Replicate a m) on =
           (positive (Replicate a m) on, each_wide a (λ x l. on x (inr l)))
       each_wide (Index a m) on = (positive (Index a m) on, each_wide a (λ x l. on x (inr l)))
-      each_wide (Slice a m l) on =
-          (positive (Slice a m l) on, each_wide a (λ x k. on x (inr k)))
+      each_wide (Slice a m l) on = (positive (Slice a m l) on, each_wide a (λ x k. on x (inr k)))
       each_wide (Join a b) on = (
         positive (Join a b) on,
         two_wide (parts a) (parts b) (λ x l. on x (inr l)) (λ h. each_wide a h)
             (λ h. each_wide b h),
       )
       each_wide (Array es) on = (positive (Array es) on, row_wide es (λ x l. on x (inr l)))
-      each_wide (AtMostOne es) on =
-          (positive (AtMostOne es) on, row_wide es (λ x l. on x (inr l)))
+      each_wide (AtMostOne es) on = (positive (AtMostOne es) on, row_wide es (λ x l. on x (inr l)))
       each_wide (Nor es) on = (positive (Nor es) on, row_wide es (λ x l. on x (inr l)))
       each_wide (Call f statics es) on =
           (positive (Call f statics es) on, row_wide es (λ x l. on x (inr l)))
@@ -435,10 +423,6 @@ module _ (P : Program) (accepted : static_refusal P ≡ None) where
         (each_wide (right_side s)
         (λ x l. to_pieces (λ s. parts (right_side s)) x s here.node.body (all s (inl refl)) l))
         (statements_wide ss (λ z l. all z (inr l)))
-
-    -- no length of the type of an expression of an instance is 0
-    pub types_wide : Every HasWide (node_parts here.node)
-    types_wide = statements_wide here.node.body (λ s l. l)
 
     -- ## Small programs
 
@@ -476,7 +460,8 @@ module _ (P : Program) (accepted : static_refusal P ≡ None) where
         is_small P ≡ true → (e : Expr) → In e (node_parts here.node) →
         part_count P here e ≤ 65536
     part_small small e on =
-        by (data_types P here e) (Every-at HasWide (node_parts here.node) e types_wide on)
+        by (data_types P here e) (Every-at HasWide (node_parts here.node) e (statements_wide
+        here.node.body (λ s l. l)) on)
         (size_small small e on)
       where
         by : (o : Option (List DataType)) →

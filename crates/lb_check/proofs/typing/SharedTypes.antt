@@ -1,26 +1,25 @@
 -- A statement that keeps the rules of types by what the specializations of a node share keeps them
 -- in each specialization.
 use Rattle.lb_check.proofs.Words
-use Words.{◌≡◌, ◌⊎◌, inl, inr, ℕ, zero, suc, Bool, true, false, List, [], ◌∷◌, length, map, take}
-use Words.{drop, Option, Some, None, refl, ap, sym, ◌∙◌, subst, list_all, zip, slice_get_past}
-use Words.{◌>>=◌, where_true, all_some, either_or, holds, and_first, and_second, is_int, DataType}
-use Words.{int, truth, is_type, are_types, natural, naturals, declared_type, Reached, CallId}
-use Words.{CallSite, ResolvedNode, ResolvedStatement, StaticId, Term, Literal, Truth, Value, Group'}
-use Words.{Unary', Binary', If', Arrow', Fby', Pre', Current', When', Replicate', Index', Slice'}
-use Words.{Join', Array', AtMostOne', Nor', Call', IterateNode', IterateSymbol', Row_of-Term}
-use Words.{end_of-Term, more_of-Term, VariableId, Specialization, Table, is_part_shared, AreSettled}
-use Words.{type_of, types_in, results, are_equal, row_results, when_both, when_truth, constant_at}
-use Words.{count_at, repeats_of, callee_types, is_resolved_statement_typed, constant_type}
-use Words.{unary_type, binary_type, common_type, array_of, index_type, slice_type, join_type, only}
-use Words.{singly, symbol_types, iterator_types, ℤ, ◌&&◌, ◌||◌, ◌==◌, option_map, slice_get}
-use Words.{reverse, Declared}
-use Rattle.std.{specs.{Ordering.int_eq, Prelude.is_none}, proofs.lemmas.Bool.leb-true}
-use Rattle.std.proofs.lemmas.Bool.Decides.{Decides-eqb, Decides-int_eq}
+use Words.{AreSettled, Array', Arrow', AtMostOne', Binary', Bool, Call', CallId, CallSite, Current'}
+use Words.{DataType, Declared, Fby', Group', If', Index', IterateNode', IterateSymbol', Join', List}
+use Words.{Literal, None, Nor', Option, Pre', Reached, Replicate', ResolvedNode, ResolvedStatement}
+use Words.{Row_of-Term, Slice', Some, Specialization, StaticId, Table, Term, Truth, Unary', Value}
+use Words.{VariableId, When', [], all_some, and_first, and_second, ap, are_equal, are_types}
+use Words.{array_of, binary_type, callee_types, common_type, constant_at, constant_type, count_at}
+use Words.{declared_type, drop, either_or, end_of-Term, false, holds, index_type, inl, inr, int}
+use Words.{is_int, is_part_shared, is_resolved_statement_typed, is_type, iterator_types, join_type}
+use Words.{length, list_all, map, more_of-Term, natural, naturals, only, option_map, refl}
+use Words.{repeats_of, results, reverse, row_results, singly, slice_get, slice_get_past, slice_type}
+use Words.{subst, suc, sym, symbol_types, take, true, truth, type_of, types_in, unary_type}
+use Words.{when_both, when_truth, where_true, zero, zip, ℕ, ℤ, ◌&&◌, ◌==◌, ◌>>=◌, ◌||◌, ◌∙◌, ◌∷◌}
+use Words.{◌≡◌, ◌⊎◌}
+use Rattle.lb_check.{proofs.lists.ListPairs.Pairs, specs.SharedTypes.{all_paired, is_callee_shared}}
+use Rattle.lb_check.specs.{SharedTypes.is_value_shared, TermTypes.{Context, context_of}}
 use Rattle.lb_static.specs.declared.resolved.Term.{Variable}
 use Rattle.lb_static.specs.declared.table.SpecializationId.{SpecializationId}
-use Rattle.lb_check.specs.SharedTypes.{all_paired, is_value_shared, is_callee_shared}
-use Rattle.lb_check.specs.TermTypes.{Context, context_of}
-use Rattle.lb_check.proofs.lists.ListPairs.{Pairs}
+use Rattle.std.proofs.lemmas.Bool.{leb-true, Decides.{Decides-eqb, Decides-int_eq}}
+use Rattle.std.specs.{Ordering.int_eq, Prelude.is_none}
 use Rattle.lb_static.specs.declared.resolved.ResolvedStatement.TheVariants as statement
 
 -- ## Results that are there stay the same
@@ -320,8 +319,7 @@ module _ (t : Table) (xs ys : List SpecializationId)
       ]
 
   called_below : (k : ℕ) → Within (slice_get xs k >>= found) (slice_get ys k >>= found)
-  called_below k =
-      alike_within IsShared found callee_below _ _ (placed IsShared k xs ys pairs)
+  called_below k = alike_within IsShared found callee_below _ _ (placed IsShared k xs ys pairs)
 
 module _ (r : Reached) (t : Table) (n : ResolvedNode) (p s : Specialization)
     (shared : is_part_shared t p s ≡ true) where

@@ -1,24 +1,23 @@
 -- The types of a row one at a time, the sizes of parts, and tests of declared types.
 use Rattle.lb_check.proofs.Words
-use Words.{array_of, false_from_ne_true, ◌≡◌, ◌≢◌, ℕ, suc, ◌+◌, ◌<◌, ◌≤◌, Bool, true, false, List}
-use Words.{[], ◌∷◌, length, map, drop, get_or, Option, Some, None, refl, ap, sym, ◌∙◌, arith, ℤ}
-use Words.{◌&&◌, nat_eq, option_map, if◌then◌else◌, list_all, and-false, nat_tests, drop_all}
-use Words.{drop_more, length-map, slice_get-get_or, slice_get-map, ◌>>=◌, all_some, either_or}
-use Words.{where_true, and_first, and_second, CallId, DataType, is_type, Kind, length-all_some}
-use Words.{context_in, Signature, are_met, are_one, arrays, calls_in, common, evaluated, has_arity}
-use Words.{like_later, list_of, type_at, when_both, common_type, list_type, only, ◌-◌, min, ◌++◌}
-use Words.{reverse, sum_by, append_assoc, append-nil, map-append, reverse-append, reverse-reverse}
-use Words.{sum_by-cons, element_count, total, FoundNode, FoundTypes, Kept, kept, noted, part_in}
-use Words.{part_size, with_parts, with_row, with_term, ◌==◌, nat_le, zip, and_assoc, eq-eqb, holds}
-use Words.{both_ways, natural, naturals, Int_kind, Bool_kind}
-use denote.Enum.Bare.{sameb}
+use Words.{Bool, Bool_kind, CallId, DataType, FoundNode, FoundTypes, Int_kind, Kept, Kind, List}
+use Words.{None, Option, Signature, Some, [], all_some, and-false, and_assoc, and_first, and_second}
+use Words.{ap, append-nil, append_assoc, are_met, are_one, arith, array_of, arrays, both_ways}
+use Words.{calls_in, common, common_type, context_in, drop, drop_all, drop_more, either_or}
+use Words.{element_count, eq-eqb, evaluated, false, false_from_ne_true, get_or, has_arity, holds}
+use Words.{if◌then◌else◌, is_type, kept, length, length-all_some, length-map, like_later, list_all}
+use Words.{list_of, list_type, map, map-append, min, nat_eq, nat_le, nat_tests, natural, naturals}
+use Words.{noted, only, option_map, part_in, part_size, refl, reverse, reverse-append}
+use Words.{reverse-reverse, slice_get-get_or, slice_get-map, suc, sum_by, sum_by-cons, sym, total}
+use Words.{true, type_at, when_both, where_true, with_parts, with_row, with_term, zip, ℕ, ℤ, ◌&&◌}
+use Words.{◌++◌, ◌+◌, ◌-◌, ◌<◌, ◌==◌, ◌>>=◌, ◌∙◌, ◌∷◌, ◌≡◌, ◌≢◌, ◌≤◌}
+use Rattle.lb_check.specs.PlacedTypes.{FoundPart, found_part, with_terms}
+use Rattle.lb_check.specs.TermSignatures.{are_sizes, is_size, is_type_with, type_with}
+use Rattle.lb_check.specs.{TermTypes.context_of, declared.part_types.PartType.PartType}
+use Rattle.{lb_check.specs.declared.type_env.TypeEnv.TypeEnv, lb_static.specs.DataTypes.is_kind}
+use Rattle.{lb_static.specs.DataTypes.same_sizes, lb_syntax.specs.contracts.tree.Kind.the_type}
 use Rattle.std.proofs.Math.{Bool.and_comm, Dec.{eqb-suc-suc, eqb-suc-zero, eqb-zero-suc}}
-use Rattle.{lb_syntax.specs.contracts.tree.Kind.the_type, lb_static.specs.DataTypes.is_kind}
-use Rattle.{lb_static.specs.DataTypes.same_sizes, lb_check.specs.PlacedTypes.FoundPart}
-use Rattle.lb_check.specs.PlacedTypes.{found_part, noted_part, with_terms}
-use Rattle.lb_check.specs.TermSignatures.{are_sizes}
-use Rattle.lb_check.specs.{TermSignatures.{is_size, is_type_with, type_with}, TermTypes.context_of}
-use Rattle.lb_check.specs.declared.{part_types.PartType.PartType, type_env.TypeEnv.TypeEnv}
+use denote.Enum.Bare.{sameb}
 
 -- The types of a row, one at a time: the types that the code makes of them, and the operands from
 -- the last to the first.
@@ -81,8 +80,7 @@ fits_start s count = grind (arith, taken_all s count, drop_all count s.takes)
 pub fits_more : (s : Signature) (count at : ℕ) (o : Option DataType) (os : Types) → at < count →
     ((has_arity s count && are_met (drop (at + 1) s.takes) os) && are_one (type_at s.takes at) o)
     ≡ (has_arity s count && are_met (drop at s.takes) (o ∷ os))
-fits_more s count at o os lt =
-    grind (arith, taken_all s count, drop_at s.takes at, and_comm)
+fits_more s count at o os lt = grind (arith, taken_all s count, drop_at s.takes at, and_comm)
 
 as_many_met : (ws os : Types) → are_met ws os ≡ true → length ws ≡ length os
 as_many_met [] [] e = refl
@@ -119,8 +117,7 @@ module _ {A : Type 0} (f : A → Option DataType) (ws : Types) (xs : List A) (i 
 
 -- types are not the wanted ones, where there are more or fewer
 pub met_apart : (ws os : Types) → length os ≢ length ws → false ≡ are_met ws os
-met_apart ws os apart =
-    sym (false_from_ne_true _ (λ e. apart (sym (as_many_met ws os e))))
+met_apart ws os apart = sym (false_from_ne_true _ (λ e. apart (sym (as_many_met ws os e))))
 
 -- ## Lists
 
@@ -186,8 +183,7 @@ common_is (Some t ∷ (Some u ∷ os)) =
         ap (λ x. where_true (list_all (is_type x) us) x) same
         ∙ every (list_all (is_type u) us)
       where
-        every : (c : Bool) →
-            where_true c u ≡ when_both (Some t) (where_true c u) common_type
+        every : (c : Bool) → where_true c u ≡ when_both (Some t) (where_true c u) common_type
         every true = sym (ap (λ b. where_true b u) e)
         every false = refl
 
@@ -231,22 +227,11 @@ counted_next n m t (Some ts) e =
 
 module _ (row : List (Option DataType)) (place count : ℕ)
     (known : part_size (all_some row) ≡ counted_from count (all_some (drop place row))) where
-  split : (o : Option DataType) → place < length row → o ≡ type_at row place →
+  pub split : (o : Option DataType) → place < length row → o ≡ type_at row place →
       part_size (all_some row) ≡ counted_from count (all_some (o ∷ drop (place + 1) row))
   split o lt is =
       known ∙ ap (λ l. counted_from count (all_some l)) (drop_at row place lt)
       ∙ ap (λ p. counted_from count (all_some (p ∷ drop (place + 1) row))) (sym is)
-
-  -- one more type of the row is counted
-  pub size_more : (t : DataType) (m : ℕ) → place < length row → Some t ≡ type_at row place →
-      m ≡ min (count + min (element_count t) 65537) 65537 →
-      part_size (all_some row) ≡ counted_from m (all_some (drop (place + 1) row))
-  size_more t m lt is e =
-      split (Some t) lt is ∙ counted_next count m t (all_some (drop (place + 1) row)) e
-
-  -- a row with a type that is not there counts 0
-  pub size_none : place < length row → None ≡ type_at row place → 0 ≡ part_size (all_some row)
-  size_none lt is = sym (split None lt is)
 
   -- no type is left
   pub size_end : length row ≤ place → count ≤ 65537 → count ≡ part_size (all_some row)
@@ -261,12 +246,6 @@ part t n = record { data_type = t; elements = n }
 
 abbrev pub keeping : ℕ → List FoundPart → Kept
 keeping n ps = record { left = n; found = ps }
-
--- no part is kept where there are too many
-pub none_kept : (k : Kept) (p : FoundPart) → k.left ≡ 0 → noted_part k p ≡ keeping 0 []
-none_kept k p e =
-    let left : k.left - p.elements ≡ 0 = omega (arith, e) in
-    ap (λ m. keeping m (if nat_eq m 0 then [] else (k.found ++ (p ∷ [])))) left
 
 -- ## Several parts
 
@@ -306,7 +285,9 @@ kept_none k (x ∷ xs) some e =
 pub kept_over : (k : Kept) (xs : List FoundTypes) → k ≡ keeping 0 [] → kept k xs ≡ k
 kept_over k [] over = refl
 kept_over k (x ∷ xs) over =
-    ap (λ j. noted j x) (kept_over k xs over) ∙ none_kept k (found_part x) (ap (λ j. j.left) over)
+    ap (λ j. noted j x) (kept_over k xs over) ∙ (let left : k.left - (found_part x).elements ≡ 0 =
+    omega (arith, (ap (λ j. j.left) over)) in ap (λ m. keeping m (if nat_eq m 0 then [] else
+    (k.found ++ ((found_part x) ∷ [])))) left)
     ∙ sym over
 
 -- the kept parts that are moved are the terms that were kept
@@ -392,8 +373,7 @@ sizes_found (v ∷ vs) (n ∷ ns) =
 -- a type is the given one exactly where its kind and its sizes are
 pub type_is : (own k : Kind) (vs : List ℤ) (ns : List ℕ) (b : Bool) → sameb the_type own k ≡ b →
     (b && are_sizes vs ns) ≡ is_type_with (type_with own vs) k ns
-type_is own k vs ns b e =
-    grind (arith, same_kind_is own k, sizes_found vs ns, turned, and-false)
+type_is own k vs ns b e = grind (arith, same_kind_is own k, sizes_found vs ns, turned, and-false)
 
 swapped : (x y z : Bool) → (x && (y && z)) ≡ (y && (x && z))
 swapped x true z = refl

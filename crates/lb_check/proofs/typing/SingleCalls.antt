@@ -1,26 +1,25 @@
 -- Where the rules of types hold, each call has one result, apart from one that is a whole right
 -- side.
 use Rattle.lb_check.proofs.Words
-use Words.{binary_type, common_type, join_type, when_both, ◌≡◌, ℕ, true, false, List, [], ◌∷◌, ◌++◌}
-use Words.{length, map, take, drop, Option, Some, refl, ap, sym, ◌∙◌, arith, ◌&&◌, is_some}
-use Words.{slice_get, nat_eq, ℤ, list_all, nat_tests, length-map, and_from, ◌>>=◌, holds}
-use Words.{where_true, Node, bind_some, all_at, and_first, and_second, Reached, CallId}
-use Words.{ResolvedNode, ResolvedStatement, Term, Literal, Truth, Value, Group', Unary', Binary'}
-use Words.{If', Arrow', Fby', Pre', Current', When', Replicate', Index', Slice', Join', Array'}
-use Words.{AtMostOne', Nor', Call', IterateNode', IterateSymbol', Row_of-Term, end_of-Term}
-use Words.{more_of-Term, Specialization, Table, instance_of, Program, Root, Child, Site, node_named}
-use Words.{called_by, source_names, IsResolved, node_of, counts_of, is_call, is_within, are_within}
-use Words.{is_statement_within, DataType, truth, is_type, are_types, IsJudged, is_single}
-use Words.{are_single, calls_single, is_single_within, is_statement_single, declared_type}
-use Words.{declared_types, length-all_some, CallTypes, call_types_of, callee_types, call_types_at}
-use Words.{are_typed, is_specialization_typed, is_resolved_statement_typed, is_node_typed}
-use Words.{are_equal, results, type_of, types_in, when_truth, only, singly, length-append}
-use Words.{length-take, length-drop}
-use Rattle.{lb_static.specs.declared.resolved.Term.Variable, lb_check.specs.TermTypes.Context}
-use Rattle.lb_check.{specs.TermTypes.context_of, proofs.definitions.NodePlaces.callee_found}
-use Rattle.lb_check.proofs.definitions.NodePlaces.{node_resolved, site_found}
+use Words.{Array', Arrow', AtMostOne', Binary', Call', CallId, CallTypes, Child, Current', DataType}
+use Words.{Fby', Group', If', Index', IsJudged, IsResolved, IterateNode', IterateSymbol', Join'}
+use Words.{List, Literal, Node, Nor', Option, Pre', Program, Reached, Replicate', ResolvedNode}
+use Words.{ResolvedStatement, Root, Row_of-Term, Site, Slice', Some, Specialization, Table, Term}
+use Words.{Truth, Unary', Value, When', [], all_at, and_first, and_from, and_second, ap, are_equal}
+use Words.{are_single, are_typed, are_types, are_within, arith, binary_type, bind_some}
+use Words.{call_types_at, call_types_of, called_by, callee_types, calls_single, common_type}
+use Words.{counts_of, declared_type, declared_types, drop, end_of-Term, false, holds, instance_of}
+use Words.{is_call, is_node_typed, is_resolved_statement_typed, is_single, is_single_within}
+use Words.{is_some, is_specialization_typed, is_statement_single, is_statement_within, is_type}
+use Words.{is_within, join_type, length, length-all_some, length-append, length-drop, length-map}
+use Words.{length-take, list_all, map, more_of-Term, nat_eq, nat_tests, node_named, node_of, only}
+use Words.{refl, results, singly, slice_get, source_names, sym, take, true, truth, type_of}
+use Words.{types_in, when_both, when_truth, where_true, ℕ, ℤ, ◌&&◌, ◌++◌, ◌>>=◌, ◌∙◌, ◌∷◌, ◌≡◌}
+use Rattle.lb_check.proofs.definitions.NodePlaces.{callee_found, node_resolved, site_found}
 use Rattle.lb_check.proofs.programs.InstancePaths.{callee_node}
 use Rattle.lb_check.proofs.typing.{FittedTypes.specialized_instance, TypeRows.type_is_only}
+use Rattle.lb_check.specs.TermTypes.{Context, context_of}
+use Rattle.lb_static.specs.declared.resolved.Term.{Variable}
 use Rattle.lb_static.specs.declared.resolved.ResolvedStatement.TheVariants as statement
 
 -- ## Results that are there

@@ -1,16 +1,15 @@
 -- The specializations of a program: rules on them hold of instances and nodes; their sizes.
 use Rattle.lb_check.proofs.Words
-use Words.{◌≡◌, ℕ, zero, suc, ◌<◌, Bool, true, List, [], ◌∷◌, length, map, Option, Some, None, refl}
-use Words.{inl, inr, ap, sym, ◌∙◌, subst, arith, option_map, slice_get, slice_index_or, list_all}
-use Words.{slice_get_within, In, either_or, zip2, all_at, all_in, all_from, both_ways, Reached}
-use Words.{Specialization, Table, IsTable, specialized_at, Program, Instance, Path, instances}
-use Words.{holds, Node, instance_of, tree_at, ◌⊎◌, ◌+◌, false, drop, get_or, ◌&&◌, find, not}
-use Words.{append_assoc, drop_more, and_assoc, and-true, not-false, and_first, and_second, NodeId}
-use Words.{nat_lt, sum_by, Contains, nat_tests, sum_by-cons, sum_by_more, get_or_from_slice_get}
-use Words.{item_at, node_parts, expression_size, is_small, size, ◌++◌, cond, ◌≤◌, take}
-use Words.{append-nil, drop_all}
-use Rattle.{std.proofs.lemmas.List.take_all, lb_static.specs.InstanceTable.{paths_of, row_at}}
-use Rattle.{lb_static.proofs.InstanceRows.paths_length, lb_check.specs.TypeRules.instance_size}
+use Words.{Bool, Contains, In, Instance, IsTable, List, Node, NodeId, None, Option, Path, Program}
+use Words.{Reached, Some, Specialization, Table, [], all_at, all_from, all_in, and-true, and_assoc}
+use Words.{and_first, and_second, ap, append-nil, arith, both_ways, cond, drop, drop_all, drop_more}
+use Words.{either_or, expression_size, false, find, get_or, get_or_from_slice_get, holds, inl, inr}
+use Words.{instance_of, instances, is_small, item_at, length, list_all, map, nat_lt, nat_tests}
+use Words.{node_parts, not, not-false, option_map, refl, size, slice_get, slice_get_within}
+use Words.{slice_index_or, specialized_at, subst, suc, sum_by, sum_by-cons, sum_by_more, sym, take}
+use Words.{tree_at, true, zero, zip2, ℕ, ◌&&◌, ◌++◌, ◌+◌, ◌<◌, ◌∙◌, ◌∷◌, ◌≡◌, ◌≤◌, ◌⊎◌}
+use Rattle.{lb_check.specs.TypeRules.instance_size, lb_static.proofs.InstanceRows.paths_length}
+use Rattle.{lb_static.specs.InstanceTable.{paths_of, row_at}, std.proofs.lemmas.List.take_all}
 use Rattle.lb_static.specs.declared.table.Instance as row
 
 -- A rule on a specialization alone holds of each instance exactly where it holds of each
@@ -143,7 +142,7 @@ same_number k x e = ap id_of (sym e)
     id_of : ℕ → NodeId
     id_of n = record { 0 = n }
 
-abbrev nodes_in : List Specialization → List NodeId
+abbrev pub nodes_in : List Specialization → List NodeId
 nodes_in = map (λ s. s.node)
 
 -- the first node that passes a test is the same in `ids` with the rest as in all
@@ -172,15 +171,9 @@ module _ (ids : List NodeId) (old new : List Bool) (ss : List Specialization) (i
     (s : Specialization) (lt : i < length ss) (is : s ≡ get_or ss i s)
     (there : AreThere ids old) (flagged : (k : ℕ) → get_or new k false ≡ true →
     (k ≡ s.node.0) ⊎ (get_or old k false ≡ true)) where
-  next_node : nodes_in (drop i ss) ≡ (s.node ∷ nodes_in (drop (i + 1) ss))
+  pub next_node : nodes_in (drop i ss) ≡ (s.node ∷ nodes_in (drop (i + 1) ss))
   next_node = ap nodes_in (drop_more ss i s lt)
       ∙ ap (λ (x : Specialization). x.node ∷ nodes_in (drop (i + 1) ss)) (sym is)
-
-  -- a node is added
-  pub added_first : AreFirst ids i ss → AreFirst (ids ++ s.node ∷ []) (i + 1) ss
-  added_first first f = ap (find f)
-      (append_assoc ids (s.node ∷ []) (nodes_in (drop (i + 1) ss))
-      ∙ ap (λ ks. ids ++ ks) (sym next_node)) ∙ first f
 
   pub added_there : AreThere (ids ++ s.node ∷ []) new
   added_there k seen f all = elim (flagged k.0 seen) [
@@ -319,8 +312,7 @@ module _ (P : Program) (r : Reached) (t : Table) (w : Specialization → ℕ)
       omega (arith, own, others, s, u)
 
   -- a sum over the specializations is at most the size of the program
-  pub specializations_within :
-      IsTable P r t → sum_by w t.specializations.items ≤ size P
+  pub specializations_within : IsTable P r t → sum_by w t.specializations.items ≤ size P
   specializations_within table =
       let longer = paths_length [] t.instances.items in
       let as_many : length (paths_of t) ≡ length t.instances.items = omega (arith, longer) in

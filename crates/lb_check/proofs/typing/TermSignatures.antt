@@ -181,8 +181,7 @@ module _ (n : ℕ) where
   red_gives [] outs ts = grind (arith, and-false)
   red_gives (acc ∷ ins) [] ts = refl
   red_gives (acc ∷ ins) (out ∷ []) [] = grind (arith, and-false)
-  red_gives (acc ∷ ins) (out ∷ []) (init ∷ args) =
-      grind (arith, arrays_met ins args, and-false)
+  red_gives (acc ∷ ins) (out ∷ []) (init ∷ args) = grind (arith, arrays_met ins args, and-false)
   red_gives (acc ∷ ins) (out ∷ (o ∷ outs)) ts = grind (arith, nat_tests)
 
   fill_gives : (ins outs ts : List DataType) →

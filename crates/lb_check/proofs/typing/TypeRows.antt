@@ -1,17 +1,16 @@
 -- The types of a term, from those of its operands and rows.
 use Rattle.lb_check.proofs.Words
-use Words.{arith, ◌≡◌, ℕ, List, [], ◌∷◌, ◌++◌, reverse, reverse-append, inl, inr, Option, Some}
-use Words.{None, Vec, Global, refl, ap, ◌∙◌, Count, ◌>>=◌, all_some, Term, Array', AtMostOne', Nor'}
-use Words.{Call', IterateNode', IterateSymbol', Row_of-Term, end_of-Term, more_of-Term}
-use Words.{items-the_row-Term, items_hidden-the_row-Term-0, DataType, IsRow, ◌⊎◌, Bool, false, Box}
-use Words.{UnaryOperator, StaticId, VariableId, IsPair, array_of, index_type, slice_type, one_type}
-use Words.{when_truth, ◌+◌, ◌<◌, ◌≤◌, length, drop, flat_map, get_or, sym, drop_all, drop_more}
-use Words.{IsSingle, IsLeaf, ◌≢◌, and-true, and-false, Group', list_type, only, singly, are_one}
-use Words.{FoundNode, FoundTypes, with_term, placed_types, placed_row_types, placed_all_types}
-use Words.{type_of, types_in, results, row_results, are_equal}
-use Rattle.lb_static.specs.declared.resolved.Term.{Group, Unary, Pre, Current, When, Replicate}
-use Rattle.lb_static.specs.declared.resolved.Term.{Index, Slice, If, Array}
-use Rattle.lb_check.specs.{PlacedTypes.with_terms, TermTypes.{Context, types_of, two_types}}
+use Words.{Array', AtMostOne', Bool, Box, Call', Count, DataType, FoundNode, FoundTypes, Global}
+use Words.{Group', IsLeaf, IsPair, IsRow, IsSingle, IterateNode', IterateSymbol', List, None, Nor'}
+use Words.{Option, Row_of-Term, Some, StaticId, Term, UnaryOperator, VariableId, Vec, [], all_some}
+use Words.{and-false, and-true, ap, are_equal, are_one, arith, array_of, end_of-Term, false}
+use Words.{index_type, inl, inr, items-the_row-Term, items_hidden-the_row-Term-0, length, list_type}
+use Words.{more_of-Term, one_type, only, placed_all_types, placed_row_types, placed_types, refl}
+use Words.{results, reverse, reverse-append, row_results, singly, slice_type, sym, type_of}
+use Words.{types_in, when_truth, with_term, ℕ, ◌++◌, ◌>>=◌, ◌∙◌, ◌∷◌, ◌≡◌, ◌≢◌, ◌⊎◌}
+use Rattle.lb_check.specs.{PlacedTypes.with_terms, TermTypes.{Context, two_types, types_of}}
+use Rattle.lb_static.specs.declared.resolved.Term.{Array, Current, Group, If, Index, Pre, Replicate}
+use Rattle.lb_static.specs.declared.resolved.Term.{Slice, Unary, When}
 
 -- Sizes of a type, the outermost last.
 
@@ -98,10 +97,6 @@ no_count : (o : Option ℕ) → (o >>= λ _. let none : Option DataType = None i
 no_count None = refl
 no_count (Some n) = refl
 
-no_slice : (o p : Option ℕ)
-    → (o >>= λ _. p >>= λ _. let none : Option DataType = None in none) ≡ None
-no_slice o p = grind arith
-
 pub single_none : (ctx : Context) (t : Term) (e : Box Term Global) → IsSinglePart t e →
     type_of ctx e.value ≡ None → type_of ctx t ≡ None
 unfolding type_of
@@ -118,7 +113,7 @@ single_none ctx t e (inr (inr (inr (inr (inr (inr (inl (i, is)))))))) h =
     ∙ no_count (ctx.count i)
 single_none ctx t e (inr (inr (inr (inr (inr (inr (inr (i, j, is)))))))) h =
     ap (type_of ctx) is ∙ ap (λ o. ctx.count i >>= λ i. ctx.count j >>= λ j. o >>= slice_type i j)
-    h ∙ no_slice (ctx.count i) (ctx.count j)
+    h ∙ grind arith
 
 pub pair_type : (ctx : Context) (t : Term) (a b : Box Term Global) (o p : Option DataType) →
     IsPair t a b
@@ -203,7 +198,7 @@ module _ (ctx : Context) where
 -- alone, without a list of them.
 
 -- the one type of a list of one type is this type
-only_singly : (o : Option DataType) → (singly o >>= only) ≡ o
+pub only_singly : (o : Option DataType) → (singly o >>= only) ≡ o
 only_singly (Some t) = refl
 only_singly None = refl
 
@@ -232,15 +227,10 @@ list_type_is ctx t es is =
     ∙ only_singly (types_of ctx es.items >>= list_type)
 
 -- results are the one type `v` exactly where their one type is `v`
-equal_one :
+pub equal_one :
     (o : Option (List DataType)) (v : Option DataType) →
     are_equal o (all_some (v ∷ [])) ≡ are_one (o >>= only) v
 equal_one o v = grind (arith, and-true, and-false)
-
-pub results_are_one : (ctx : Context) (e : Term) (o v : Option DataType) → o ≡ type_of ctx e →
-    are_one o v ≡ are_equal (results ctx e) (all_some (v ∷ []))
-results_are_one ctx e o v is =
-    ap (λ o. are_one o v) (is ∙ type_is_only ctx e) ∙ sym (equal_one (results ctx e) v)
 
 -- one result differs from any other number of types
 pub single_apart : (o : Option DataType) (vs : List (Option DataType)) → length vs ≢ 1 →
@@ -251,9 +241,3 @@ single_apart (Some s) (None ∷ vs) apart = refl
 single_apart (Some s) (Some t ∷ []) apart = absurd (apart refl)
 single_apart (Some s) (Some t ∷ (None ∷ vs)) apart = refl
 single_apart (Some s) (Some t ∷ (Some u ∷ vs)) apart = grind (arith, and-false)
-
--- one result is the one type `v` exactly where its type is `v`
-pub single_met : (o v : Option DataType) →
-    are_one o v ≡ are_equal (singly o) (all_some (v ∷ []))
-single_met o v =
-    ap (λ p. are_one p v) (sym (only_singly o)) ∙ sym (equal_one (singly o) v)

@@ -1,26 +1,25 @@
 -- The rules of types of specializations and of their instances.
 use Rattle.lb_check.proofs.Words
-use Words.{◌≡◌, ℕ, Bool, true, false, Some, None, ap, sym, ◌∙◌, subst, ◌&&◌, slice_get, list_all}
-use Words.{and-false, holds, Reached, ResolvedNode, Specialization, Table, Part, first_broken}
-use Words.{is_node_typed, is_specialization_typed, is_resolved_statement_typed, is_variable_typed}
-use Words.{List, [], ◌∷◌, length, map, Option, refl, arith, option_map, slice_get-map}
-use Words.{slice_get_within, get_or_from_slice_get, length-map, and-true, all_some, listed, zip2}
-use Words.{Name, all_at, item_at, and_first, and_second, Sampling, ResolvedStatement, VariableId}
-use Words.{instance_of, specialized_at, Program, Instance, Path, static_value, instances}
-use Words.{are_distinct, variable_names, source_names, trees, IsResolved, node_of, statics_of}
-use Words.{texts_of, counts_of, name_at, declaration_of, sampling_of, statement_of, is_variable}
-use Words.{is_within, is_statement_within, is_statement_unhidden, is_sampling_within}
-use Words.{is_declared_within, DataType, truth, is_type, variables, are_same, is_part_typed}
-use Words.{IsJudged, type_of_name, is_statement_typed, is_clock_typed, is_typed, results, are_equal}
-use Words.{Declared}
-use Rattle.lb_check.specs.{FoundParts.{is_part_typed_in, IsIllTyped}, TermTypes.Context}
-use Rattle.lb_check.{specs.TermTypes.context_of, proofs.clocking.ClockDepths.zip_at}
-use Rattle.lb_check.proofs.lists.ListPairs.{all_pass, fails_there, not_all_pass, fails_at}
-use Rattle.lb_check.proofs.{definitions.NodePlaces.distinct_variables, lists.ListPairs.item_there}
-use Rattle.lb_check.proofs.typing.FittedTypes.{node_at, specialized_instance, values_at, call_is}
-use Rattle.lb_check.proofs.typing.FittedTypes.{variable_is, left_is, value_is, static_is}
-use Rattle.lb_check.proofs.typing.{FittedTypes.{repeats_is, call_at}, MirroredTypes.Fits}
-use Rattle.lb_check.proofs.typing.{MirroredTypes.term_results, Specializations.each_judged}
+use Words.{Bool, DataType, Declared, Instance, IsJudged, IsResolved, List, Name, None, Option, Part}
+use Words.{Path, Program, Reached, ResolvedNode, ResolvedStatement, Sampling, Some, Specialization}
+use Words.{Table, VariableId, [], all_at, all_some, and-false, and-true, and_first, and_second, ap}
+use Words.{are_distinct, are_equal, are_same, arith, counts_of, declaration_of, false, first_broken}
+use Words.{get_or_from_slice_get, holds, instance_of, instances, is_clock_typed, is_declared_within}
+use Words.{is_node_typed, is_part_typed, is_resolved_statement_typed, is_sampling_within}
+use Words.{is_specialization_typed, is_statement_typed, is_statement_unhidden, is_statement_within}
+use Words.{is_type, is_typed, is_variable, is_variable_typed, is_within, item_at, length}
+use Words.{length-map, list_all, listed, map, name_at, node_of, option_map, refl, results}
+use Words.{sampling_of, slice_get, slice_get-map, slice_get_within, source_names, specialized_at}
+use Words.{statement_of, static_value, statics_of, subst, sym, texts_of, trees, true, truth}
+use Words.{type_of_name, variable_names, variables, zip2, ℕ, ◌&&◌, ◌∙◌, ◌∷◌, ◌≡◌}
+use Rattle.lb_check.proofs.{clocking.ClockDepths.zip_at, definitions.NodePlaces.distinct_variables}
+use Rattle.lb_check.proofs.lists.ListPairs.{all_pass, fails_at, fails_there, item_there}
+use Rattle.lb_check.proofs.{lists.ListPairs.not_all_pass, typing.FittedTypes.{call_at, call_is}}
+use Rattle.lb_check.proofs.typing.FittedTypes.{left_is, node_at, repeats_is, specialized_instance}
+use Rattle.lb_check.proofs.typing.FittedTypes.{static_is, value_is, values_at, variable_is}
+use Rattle.lb_check.proofs.typing.{MirroredTypes.{Fits, term_results}, Specializations.each_judged}
+use Rattle.lb_check.specs.{FoundParts.{IsIllTyped, is_part_typed_in}, TermTypes.Context}
+use Rattle.lb_check.specs.TermTypes.{context_of}
 use Rattle.lb_check.specs.declared.part.Part.TheVariants as part
 use Rattle.lb_static.specs.declared.resolved.ResolvedStatement.TheVariants as statement
 use Rattle.lb_check.specs.TermTypes as mirror

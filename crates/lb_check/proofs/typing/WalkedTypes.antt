@@ -1,25 +1,25 @@
 -- The parts that a walk over a term notes, and rows that do not fit.
 use Rattle.lb_check.proofs.Words
-use Words.{◌≡◌, inl, inr, ℕ, ◌+◌, ◌-◌, ◌<◌, ◌≤◌, List, [], ◌∷◌, ◌++◌, length, map, drop, get_or}
-use Words.{Option, None, Box, Vec, Global, refl, ap, sym, subst, ◌∙◌, arith, IfOk, OnOk, option_map}
-use Words.{length-drop, length-map, ◌>>=◌, all_some, CallId, Term, DataType, view_type, IsSingle}
-use Words.{FoundTypes, IsWalked, Kept, kept, noted, placed_types, placed_all_types, IsGiven, IsLeaf}
-use Words.{Signature, evaluated, given_of, list_of, one_type, results, type_of, when_both}
-use Words.{when_truth, common_type, only, singly, zero, suc, Bool, true, false, take, ◌&&◌, is_some}
-use Words.{flat_map-append, drop-map, length-append, where_true, and_second, Group', are_met}
-use Words.{are_one, arrays, common, has_arity, outcome, array_of, Result, flat_map, append-nil}
-use Words.{FoundNode, part_size, reverse, sum_by, with_parts}
-use Rattle.std.proofs.lemmas.List.{Sums.sum_by-append, take_all, take_more}
-use Rattle.{std.proofs.lemmas.List.take-append-drop, lb_static.specs.declared.resolved.Term.Array}
-use Rattle.lb_static.specs.declared.resolved.Term.{Group, If}
-use Rattle.lb_check.specs.{PlacedTypes.{AreKept, AreMoved, IsDecided, IsSideWalked, with_terms}, TermTypes.{Context, leaf_type}}
+use Words.{Bool, Box, CallId, DataType, FoundNode, FoundTypes, Global, Group', IfOk, IsGiven}
+use Words.{IsLeaf, IsSingle, IsWalked, Kept, List, None, OnOk, Option, Result, Signature, Term, Vec}
+use Words.{[], all_some, and_second, ap, append-nil, are_met, are_one, arith, array_of, arrays}
+use Words.{common, common_type, drop, drop-map, evaluated, false, flat_map, flat_map-append, get_or}
+use Words.{given_of, has_arity, inl, inr, is_some, kept, length, length-append, length-drop}
+use Words.{length-map, list_of, map, noted, one_type, only, option_map, outcome, part_size}
+use Words.{placed_all_types, placed_types, refl, results, reverse, singly, subst, suc, sym, take}
+use Words.{true, type_of, view_type, when_both, when_truth, where_true, with_parts, zero, ℕ, ◌&&◌}
+use Words.{◌++◌, ◌+◌, ◌-◌, ◌<◌, ◌>>=◌, ◌∙◌, ◌∷◌, ◌≡◌, ◌≤◌}
 use Rattle.lb_check.proofs.definitions.BrokenRules.{both_found, if_found}
 use Rattle.lb_check.proofs.lists.ListPairs.{all_last, more_last, none_last}
-use Rattle.lb_check.proofs.typing.SignatureRows.{kept_both, list_is, kept_none, kept_over, fits_end}
-use Rattle.lb_check.proofs.typing.{SignatureRows.{kept_left, moved_terms}, TypeRows.more_terms}
-use Rattle.lb_check.proofs.typing.{TermSignatures.results_given, TypeRows.list_results}
-use Rattle.lb_check.proofs.typing.TypeRows.{list_type_is, type_is_only, single_none, single_type}
-use Rattle.lb_check.proofs.typing.TypeRows.{HasOneResult, group_placed, row_placed}
+use Rattle.lb_check.proofs.typing.SignatureRows.{fits_end, kept_both, kept_left, kept_none}
+use Rattle.lb_check.proofs.typing.SignatureRows.{kept_over, moved_terms}
+use Rattle.lb_check.proofs.typing.{TermSignatures.results_given, TypeRows.HasOneResult}
+use Rattle.lb_check.proofs.typing.TypeRows.{group_placed, more_terms, row_placed, single_none}
+use Rattle.lb_check.{proofs.typing.TypeRows.{single_type, type_is_only}, specs.PlacedTypes.AreKept}
+use Rattle.lb_check.specs.PlacedTypes.{AreMoved, IsDecided, IsSideWalked, with_terms}
+use Rattle.lb_check.specs.TermTypes.{Context, leaf_type}
+use Rattle.lb_static.specs.declared.resolved.Term.{Group, If}
+use Rattle.std.proofs.lemmas.List.{take-append-drop, take_all, take_more, Sums.sum_by-append}
 use Rattle.lb_static.specs.declared.data_type.DataType as stored
 
 -- The parts that a walk over a term notes, from those that it notes for the operands of the term.
@@ -27,8 +27,7 @@ use Rattle.lb_static.specs.declared.data_type.DataType as stored
 -- parts are kept, and then those that stand before them
 pub further : (before mid after : Kept) (xs ys : List FoundTypes) → mid ≡ kept before ys →
     after ≡ kept mid xs → after ≡ kept before (xs ++ ys)
-further before mid after xs ys m a =
-    a ∙ ap (λ k. kept k xs) m ∙ sym (kept_both before xs ys)
+further before mid after xs ys m a = a ∙ ap (λ k. kept k xs) m ∙ sym (kept_both before xs ys)
 
 module _ (ctx : Context) where
   -- ## Terms of one result
@@ -40,12 +39,7 @@ module _ (ctx : Context) where
   leaf_is t (inr (inr (inl (i, e)))) = rw e refl
   leaf_is t (inr (inr (inr (x, e)))) = rw e refl
 
-  pub list_one : (t : Term) (es : Vec Term Global) → t ≡ Array es →
-      results ctx t ≡ singly (type_of ctx t)
-  list_one t es is = list_results ctx t es is ∙ ap singly (sym (list_type_is ctx t es is))
-
-  group_type : (t : Term) (e : Box Term Global) → t ≡ Group e →
-      type_of ctx t ≡ type_of ctx e.value
+  group_type : (t : Term) (e : Box Term Global) → t ≡ Group e → type_of ctx t ≡ type_of ctx e.value
   unfolding type_of
   group_type t e is = rw is refl
 
@@ -61,12 +55,6 @@ module _ (ctx : Context) where
       ≡ type_of ctx t
   unfolding type_of
   choice_type t c a b is = rw is refl
-
-  -- the type of a list comes from those of its elements
-  pub list_from : (t : Term) (es : Vec Term Global) → t ≡ Array es →
-      list_of (map (type_of ctx) es.items) ≡ type_of ctx t
-  list_from t es is =
-      sym (list_is (map (type_of ctx) es.items)) ∙ sym (list_type_is ctx t es is)
 
   -- ## The parts that are noted for a term
 
@@ -213,8 +201,7 @@ Types = List (Option DataType)
 met_last : (k : ℕ) (ws os : Types) → are_met ws os ≡ true → are_met (drop k ws) (drop k os) ≡ true
 met_last zero ws os e = e
 met_last (suc k) [] [] e = refl
-met_last (suc k) (w ∷ ws) (o ∷ os) e =
-    met_last k ws os (and_second (are_one w o) (are_met ws os) e)
+met_last (suc k) (w ∷ ws) (o ∷ os) e = met_last k ws os (and_second (are_one w o) (are_met ws os) e)
 met_last _ _ _ e = absurd cc
 
 -- a row does not fit where its last operands do not fit
@@ -311,10 +298,6 @@ module _ (ctx : Context) where
           )
 
 -- ## The terms that are kept, of one statement after another
-
--- no term is kept yet
-pub keeps_none : (k : Kept) (f : FoundNode) → k.found ≡ [] → AreKept [] k k f f
-keeps_none k f none = (none, omega arith, λ some. refl)
 
 -- terms are noted and moved
 pub keeps_moved :

@@ -1,5 +1,4 @@
-use Rattle.lb_check.proofs.Words.{true, false, sym, is_given, Variable}
-use Rattle.lb_check.proofs.lists.ListPairs.{tested_at}
+use Rattle.lb_check.proofs.{Words.{Variable, false, is_given, sym, true}, lists.ListPairs.tested_at}
 use Rattle.lb_check.proofs.call_clock.are_given.Goals as goal
 
 pub loop-variable-preserved : goal.loop-variable-preserved

@@ -1,5 +1,4 @@
-use Rattle.lb_check.proofs.Words.{Some, None, sym}
-use Rattle.lb_check.proofs.clocking.ClockSetRows.{base_at}
+use Rattle.lb_check.proofs.{Words.{None, Some, sym}, clocking.ClockSetRows.base_at}
 use Rattle.lb_check.proofs.call_clock.base_of.Goals as goal
 
 pub returns-in-Some : goal.returns-in-Some

@@ -1,6 +1,5 @@
-use Rattle.lb_check.proofs.Words.{ap, ◌∙◌, map-append, VariableId, Operand, OneClock, clock_sets}
-use Rattle.lb_check.specs.StoredClocks.{context_in}
-use Rattle.lb_check.proofs.lists.ListPairs.{mapped_next}
+use Rattle.lb_check.proofs.Words.{OneClock, Operand, VariableId, ap, clock_sets, map-append, ◌∙◌}
+use Rattle.lb_check.{proofs.lists.ListPairs.mapped_next, specs.StoredClocks.context_in}
 use Rattle.lb_check.proofs.call_clock.left_operands.Goals as goal
 
 pub loop-left-preserved : goal.loop-left-preserved

@@ -1,5 +1,4 @@
-use Rattle.lb_check.proofs.Words.{◌≡◌, ◌++◌, drop}
-use Rattle.lb_check.specs.StoredClocks.{context_in}
+use Rattle.lb_check.{proofs.Words.{drop, ◌++◌, ◌≡◌}, specs.StoredClocks.context_in}
 use Rattle.lb_check.specs.TermClocks as mirror
 use Rattle.lb_check.proofs.call_clock.left_operands.Given as goal
 

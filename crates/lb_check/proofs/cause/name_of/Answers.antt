@@ -1,8 +1,7 @@
 -- The name of the node at this place, if there is one.
-use Rattle.lb_check.proofs.Words.{◌≡◌, ap, sym, ◌∙◌, subst, IfOk, listed, option_map}
-use Rattle.lb_check.proofs.Words.{slice_get-map, Node, node_of}
+use Rattle.lb_check.proofs.Words.{IfOk, Node, ap, listed, node_of, option_map, slice_get-map, subst}
+use Rattle.{lb_check.proofs.Words.{sym, ◌∙◌, ◌≡◌}, lb_static.proofs.Lookups.{held, past}}
 use Rattle.std.specs.Prelude.{string_bytes}
-use Rattle.lb_static.proofs.Lookups.{held, past}
 use Rattle.lb_check.proofs.cause.name_of.Goals as goal
 
 pub returns-in-Some : goal.returns-in-Some

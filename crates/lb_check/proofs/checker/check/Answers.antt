@@ -1,13 +1,11 @@
 -- The answer is the broken rule that is found; else what is found of clocks and types is kept.
-use Rattle.std.specs.Prelude.{◌≡◌, Result, Err, IsErrAnd}
-use Rattle.std.proofs.lemmas.Result.{err_from_is_err_and}
-use Rattle.lb_static.specs.Instances.{Program}
-use Rattle.lb_check.specs.Correct.{IsAnswer}
-use Rattle.lb_check.specs.declared.checked.Checked.{Checked}
-use Rattle.lb_check.specs.declared.error.CheckError.{CheckError}
-use Rattle.lb_check.proofs.{Words.elaborated_program, clocking.FoundClocks.found_here}
-use Rattle.lb_check.proofs.definitions.BrokenRules.{judged_here}
-use Rattle.lb_check.proofs.typing.FoundTypes.{types_found_here}
+use Rattle.lb_check.proofs.{Words.{elaborated_program, subst}, clocking.FoundClocks.found_here}
+use Rattle.lb_check.proofs.definitions.BrokenRules.{judged, judged_here}
+use Rattle.lb_check.{proofs.typing.FoundTypes.types_here, specs.Correct.IsAnswer}
+use Rattle.lb_check.specs.{PlacedTypes.AreFound, declared.checked.Checked.Checked}
+use Rattle.{lb_check.specs.declared.error.CheckError.CheckError, lb_static.specs.Instances.Program}
+use Rattle.std.{proofs.lemmas.Result.err_from_is_err_and, specs.Prelude.{Err, IsErrAnd, Result}}
+use Rattle.std.specs.Prelude.{◌≡◌}
 use Rattle.lb_check.proofs.checker.check.Goals as goal
 
 -- the answer is the error that is passed on
@@ -38,9 +36,12 @@ new-requires c =
           found_here c.args.elab c.reached.result.now c.in_ok-found.found.clocks.items
           c.reached.ensures.lawful c.reached.ensures.value kept c.in_ok-found.ensures.clocks;
       types =
-          types_found_here c.args.elab c.reached.result.now c.table.result.now
-          c.in_ok-found.found.types c.reached.ensures.lawful c.reached.ensures.value
-          c.table.ensures.value c.in_ok-found.ensures.types;
+          types_here (elaborated_program c.args.elab) c.args.elab.reached c.args.elab.table
+          (judged (elaborated_program c.args.elab) c.args.elab c.reached.ensures.lawful)
+          c.in_ok-found.found.types (subst (λ r. AreFound r c.args.elab.table
+          c.in_ok-found.found.types) c.reached.ensures.value
+          (subst (λ t. AreFound c.reached.result.now t c.in_ok-found.found.types)
+          c.table.ensures.value c.in_ok-found.ensures.types));
     }
 
 pub returns-clause-answer : goal.returns-clause-answer

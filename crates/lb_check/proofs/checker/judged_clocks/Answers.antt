@@ -1,13 +1,14 @@
 -- The error names the first part that breaks a rule of clocks, or else of definitions, if one does.
-use Rattle.lb_check.proofs.definitions.BrokenRules.{broken, kept_by, not_clocked, told}
+use Rattle.lb_check.proofs.{Words.{false, refl, true}, definitions.BrokenRules.{broken, by_tests}}
+use Rattle.lb_check.proofs.definitions.BrokenRules.{defined, kept_by, told}
 use Rattle.lb_check.proofs.checker.judged_clocks.Goals as goal
 
 pub returns-in-Some-clause-answer : goal.returns-in-Some-clause-answer
 returns-in-Some-clause-answer c = λ P j typed.
     let o = c.in_ok-program.program.broken in
     c.in_ok-clock_error.ensures P
-    (not_clocked P typed (broken o c.in-Some.found _ (c.in_ok-program.ensures.judged P j typed)
-    c.in-Some.is))
+    (by_tests P true false (defined P) typed (broken o c.in-Some.found _
+    (c.in_ok-program.ensures.judged P j typed) c.in-Some.is) refl)
     (told o c.in-Some.found _ (c.in_ok-program.ensures.named P j typed) c.in-Some.is)
 
 pub returns-clause-answer : goal.returns-clause-answer

@@ -1,7 +1,6 @@
 -- The first of the rules that an elaborated program breaks, with the part of a node that breaks it.
-use Rattle.lb_check.proofs.Words.{ap, sym, ◌∙◌}
+use Rattle.{lb_check.proofs.Words.{ap, sym, ◌∙◌}, std.proofs.lemmas.Result.IfOk-at_ok}
 use Rattle.std.specs.Prelude.{is_ok}
-use Rattle.std.proofs.lemmas.Result.{IfOk-at_ok}
 use Rattle.lb_check.proofs.checker.judged_program.Goals as goal
 
 pub returns-clause-answer : goal.returns-clause-answer

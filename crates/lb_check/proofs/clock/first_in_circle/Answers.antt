@@ -1,5 +1,4 @@
-use Rattle.lb_check.proofs.Words.{arith, subst, sym, AreDepths}
-use Rattle.lb_check.proofs.clocking.ClockDepths.{noted_step}
+use Rattle.lb_check.proofs.{Words.{AreDepths, arith, subst, sym}, clocking.ClockDepths.noted_step}
 use Rattle.lb_check.proofs.clock.first_in_circle.Goals as goal
 
 pub note_depths-requires-clause-small : goal.note_depths-requires-clause-small

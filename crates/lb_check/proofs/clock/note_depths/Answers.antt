@@ -1,6 +1,6 @@
-use Rattle.lb_check.proofs.Words.{inl, inr, arith, ◌<◌, ◌+◌, ◌-◌, length, subst, sym, ◌∙◌}
-use Rattle.lb_check.proofs.clocking.ClockDepths.{awaits, first_known, still_known, more_depths}
-use Rattle.lb_check.proofs.clocking.ClockDepths.{waits_deeper, first_noted, less_small}
+use Rattle.lb_check.proofs.Words.{arith, inl, inr, length, subst, sym, ◌+◌, ◌-◌, ◌<◌, ◌∙◌}
+use Rattle.lb_check.proofs.clocking.ClockDepths.{awaits, first_known, first_noted, more_depths}
+use Rattle.lb_check.proofs.clocking.ClockDepths.{still_known, waits_deeper}
 use Rattle.lb_check.proofs.clock.note_depths.Goals as goal
 
 pub returns-in_default-clause-noted : goal.returns-in_default-clause-noted
@@ -48,4 +48,4 @@ pub returns-in_default-clause-known : goal.returns-in_default-clause-known
 returns-in_default-clause-known c =
     let known = c.loop-above.invariant in
     more_depths _ c.loop-above.depths c.loop-above.variable (c.args.depth - c.loop-above.above)
-    known.known known.stands (less_small c.args.depth c.loop-above.above _ c.requires.small)
+    known.known known.stands (omega (arith, c.requires.small))

@@ -1,7 +1,6 @@
 -- The error names the node and the part that are found.
-use Rattle.lb_check.proofs.Words.{ap, ◌∙◌, is_clocked, is_part_clocked}
-use Rattle.std.specs.Prelude.{string_bytes}
-use Rattle.lb_check.proofs.definitions.BrokenRules.{broken_in}
+use Rattle.lb_check.proofs.Words.{ap, is_clocked, is_part_clocked, ◌∙◌}
+use Rattle.{lb_check.proofs.definitions.BrokenRules.broken_in, std.specs.Prelude.string_bytes}
 use Rattle.lb_check.proofs.clock_cause.clock_error.Goals as goal
 
 pub returns : goal.returns

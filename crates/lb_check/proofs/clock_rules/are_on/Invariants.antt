@@ -1,5 +1,4 @@
-use Rattle.lb_check.proofs.Words.{◌≡◌, drop, list_all, VariableId}
-use Rattle.lb_check.specs.StoredClocks.{context_in}
+use Rattle.lb_check.{proofs.Words.{VariableId, drop, list_all, ◌≡◌}, specs.StoredClocks.context_in}
 use Rattle.lb_check.specs.TermClocks as mirror
 use Rattle.lb_check.proofs.clock_rules.are_on.Given as goal
 

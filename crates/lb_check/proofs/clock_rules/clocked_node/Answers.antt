@@ -1,10 +1,9 @@
-use Rattle.lb_check.proofs.Words.{ap, subst, sym, ◌∙◌, cond, None, Some, or_else, placed_statement}
-use Rattle.lb_check.proofs.Words.{is_resolved_statement_clocked, source_names}
-use Rattle.lb_check.specs.FoundParts.{IsClockedPart}
-use Rattle.lb_check.specs.{PlacedClocks.found_in, StoredClocks.context_in}
-use Rattle.lb_check.proofs.clocking.WalkedClocks.{flat_end, flat_more}
-use Rattle.lb_check.proofs.clocking.WholeClocks.{distinct_at, part_found, resolved_at}
+use Rattle.lb_check.proofs.Words.{None, Some, ap, cond, is_resolved_statement_clocked, or_else}
+use Rattle.lb_check.proofs.Words.{placed_statement, source_names, subst, sym, ◌∙◌}
+use Rattle.lb_check.proofs.clocking.{WalkedClocks.{flat_end, flat_more}, WholeClocks.distinct_at}
+use Rattle.lb_check.proofs.clocking.WholeClocks.{part_found, resolved_at}
 use Rattle.lb_check.proofs.lists.ListPairs.{broken_end, broken_next}
+use Rattle.lb_check.specs.{FoundParts.IsClockedPart, PlacedClocks.found_in, StoredClocks.context_in}
 use Rattle.lb_check.proofs.clock_rules.clocked_node.Goals as goal
 
 pub loop-j-preserved : goal.loop-j-preserved

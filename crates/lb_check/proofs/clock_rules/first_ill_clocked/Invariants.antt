@@ -1,6 +1,5 @@
-use Rattle.lb_check.proofs.Words.{◌≡◌, drop, find, map, not, is_clocked_at, NodeId, Reached}
-use Rattle.lb_check.proofs.Words.{Specialization}
-use Rattle.lb_check.specs.FoundParts.{AreClockedParts}
+use Rattle.lb_check.proofs.Words.{NodeId, Reached, Specialization, drop, find, is_clocked_at, map}
+use Rattle.lb_check.{proofs.Words.{not, ◌≡◌}, specs.FoundParts.AreClockedParts}
 use Rattle.lb_check.proofs.clock_rules.first_ill_clocked.Given as goal
 
 abbrev pub invariant-loop-specialization : goal.invariant-loop-specialization

@@ -1,6 +1,5 @@
-use Rattle.lb_check.proofs.Words.{arith}
+use Rattle.lb_check.proofs.{Words.arith, clocking.WholeClocks.none_clocked}
 use Rattle.lb_check.specs.declared.part.Part.TheVariants as part
-use Rattle.lb_check.proofs.clocking.WholeClocks.{none_clocked}
 use Rattle.lb_check.proofs.clock_rules.part_at.Goals as goal
 
 pub returns-else-id-parts : goal.returns-else-id-parts

@@ -1,7 +1,6 @@
-use Rattle.lb_check.proofs.Words.{ap, [], sym, ◌∙◌, append-nil, determined_clock, placed_terms}
-use Rattle.lb_check.proofs.Words.{with_terms}
-use Rattle.{std.specs.Option.unwrap_or, lb_check.specs.PlacedClocks.found_in}
-use Rattle.lb_check.specs.StoredClocks.{context_in}
+use Rattle.lb_check.proofs.Words.{[], ap, append-nil, determined_clock, placed_terms, sym}
+use Rattle.lb_check.{proofs.Words.{with_terms, ◌∙◌}, specs.PlacedClocks.found_in}
+use Rattle.{lb_check.specs.StoredClocks.context_in, std.specs.Option.unwrap_or}
 use Rattle.lb_check.proofs.clock_rules.place_term.Goals as goal
 
 pub returns-clause-placed : goal.returns-clause-placed

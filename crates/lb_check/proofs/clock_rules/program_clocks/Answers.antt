@@ -1,15 +1,13 @@
-use Rattle.lb_check.proofs.Words.{◌≡◌, ℕ, ◌<◌, ap, sym, subst, ◌∙◌, [], ◌∷◌, ◌++◌, arith, get_or}
-use Rattle.lb_check.proofs.Words.{length, length-append, map, nothing_found, node_terms, slice_get}
-use Rattle.lb_check.proofs.Words.{with_terms, refl, is_clocked, is_clocked_at, is_part_clocked, List}
-use Rattle.lb_check.proofs.Words.{IsIllClocked, Option, Part, Reached, ResolvedNode, ◌≤◌}
-use Rattle.std.proofs.Common.{below_more}
-use Rattle.std.proofs.Math.{ListN.get_or-append, Seq.get_or-append_seam}
-use Rattle.std.proofs.lemmas.Option.{slice_get_read}
+use Rattle.lb_check.proofs.Words.{IsIllClocked, List, Option, Part, Reached, ResolvedNode, [], ap}
+use Rattle.lb_check.proofs.Words.{arith, get_or, is_clocked, is_clocked_at, is_part_clocked, length}
+use Rattle.lb_check.proofs.Words.{length-append, map, node_terms, nothing_found, refl, slice_get}
+use Rattle.lb_check.proofs.Words.{subst, sym, with_terms, ℕ, ◌++◌, ◌<◌, ◌∙◌, ◌∷◌, ◌≡◌, ◌≤◌}
+use Rattle.lb_check.proofs.clocking.{WalkedClocks.map_more, WholeClocks.first_broken_specialization}
+use Rattle.lb_check.proofs.clocking.WholeClocks.{first_part, found_is}
+use Rattle.lb_check.proofs.{definitions.BrokenRules.part_named, lists.ListPairs.mapped_end}
 use Rattle.lb_check.specs.{FoundParts.{AreClockedParts, IsClockedPart}, PlacedClocks.found_in}
-use Rattle.lb_check.proofs.clocking.WalkedClocks.{map_more}
-use Rattle.lb_check.proofs.lists.ListPairs.{mapped_end}
-use Rattle.lb_check.proofs.clocking.WholeClocks.{first_broken_specialization, first_part, found_is}
-use Rattle.lb_check.proofs.definitions.BrokenRules.{part_named}
+use Rattle.std.proofs.{Common.below_more, Math.{ListN.get_or-append, Seq.get_or-append_seam}}
+use Rattle.std.proofs.lemmas.Option.{slice_get_read}
 use Rattle.lb_check.proofs.clock_rules.program_clocks.Goals as goal
 
 -- the parts that the loop finds are those of all reached nodes, once it ends

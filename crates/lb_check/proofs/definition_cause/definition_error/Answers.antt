@@ -1,7 +1,6 @@
 -- The error names the node and the part that are found.
-use Rattle.lb_check.proofs.Words.{ap, ◌∙◌, is_defined, is_part_defined}
-use Rattle.std.specs.Prelude.{string_bytes}
-use Rattle.lb_check.proofs.definitions.BrokenRules.{broken_in}
+use Rattle.lb_check.proofs.Words.{ap, is_defined, is_part_defined, ◌∙◌}
+use Rattle.{lb_check.proofs.definitions.BrokenRules.broken_in, std.specs.Prelude.string_bytes}
 use Rattle.lb_check.proofs.definition_cause.definition_error.Goals as goal
 
 pub returns : goal.returns

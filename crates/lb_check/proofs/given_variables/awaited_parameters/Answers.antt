@@ -1,7 +1,6 @@
-use Rattle.lb_check.proofs.Words.{◌≡◌, ◌<◌, ◌+◌, ℕ, Bool, List, false, drop, get_or, length, ap}
-use Rattle.lb_check.proofs.Words.{sym, ◌∙◌, subst, arith, rules, ◌||◌, places, with_items_is}
-use Rattle.lb_check.proofs.Words.{drop_all}
-use Rattle.lb_check.proofs.clocking.GivenVariables.{is_waited, waited_more}
+use Rattle.lb_check.proofs.Words.{Bool, List, ap, arith, drop, drop_all, false, get_or, length}
+use Rattle.lb_check.proofs.Words.{places, rules, subst, sym, with_items_is, ℕ, ◌+◌, ◌<◌, ◌||◌, ◌∙◌}
+use Rattle.lb_check.proofs.{Words.◌≡◌, clocking.GivenVariables.{is_waited, waited_more}}
 use Rattle.lb_check.proofs.given_variables.awaited_parameters.Goals as goal
 
 pub loop-variable-preserved : goal.loop-variable-preserved
@@ -11,8 +10,7 @@ loop-variable-preserved c =
     let old = l.awaited.items in
     let new = c.flag_awaited.new.awaited in
     let same = c.deref_mut.ensures.value in
-    let kept : length new ≡ length old =
-    c.flag_awaited.ensures.length_kept ∙ ap length same in
+    let kept : length new ≡ length old = c.flag_awaited.ensures.length_kept ∙ ap length same in
     let flags = sym (with_items_is l.awaited new (search (rules, places))) in
     subst (λ (fs : List Bool). (length fs ≡ length all)
     × ((i : ℕ) → i < length fs → is_waited i all

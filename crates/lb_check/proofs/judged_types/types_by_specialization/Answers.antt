@@ -1,10 +1,9 @@
-use Rattle.lb_check.proofs.Words.{length, refl, ap, cond, drop, not, subst, sym, ◌+◌, ◌∙◌, Some}
-use Rattle.lb_check.proofs.Words.{slice_get, slice_get_read, drop_more, first_broken, kept_in}
-use Rattle.lb_check.proofs.Words.{is_specialization_typed}
-use Rattle.lb_check.specs.FoundParts.{IsJudgedSpecialization}
-use Rattle.lb_check.specs.SharedTypes.{AreJudgedParts}
+use Rattle.lb_check.proofs.Words.{Some, ap, cond, drop, drop_more, first_broken}
+use Rattle.lb_check.proofs.Words.{is_specialization_typed, kept_in, length, not, refl, slice_get}
+use Rattle.lb_check.proofs.Words.{slice_get_read, subst, sym, ◌+◌, ◌∙◌}
 use Rattle.lb_check.proofs.lists.ListPairs.{broken_from, broken_more, none_broken}
-use Rattle.lb_check.proofs.typing.FoundTypes.{found_more, found_none, found_all}
+use Rattle.lb_check.proofs.typing.FoundTypes.{found_all, found_more, found_none}
+use Rattle.lb_check.specs.{FoundParts.IsJudgedSpecialization, SharedTypes.AreJudgedParts}
 use Rattle.lb_check.proofs.judged_types.types_by_specialization.Goals as goal
 
 pub loop-place-preserved : goal.loop-place-preserved

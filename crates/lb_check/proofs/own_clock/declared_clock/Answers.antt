@@ -1,7 +1,6 @@
-use Rattle.lb_check.proofs.Words.{◌≤◌, length, ap, sym, ◌∙◌, subst, ltb-true, ◌>>=◌}
-use Rattle.lb_check.proofs.Words.{clock_in, clock_with, Variable}
-use Rattle.lb_static.proofs.Lookups.{held}
-use Rattle.lb_check.proofs.clocking.ClockSetRows.{declared_nowhere, declared_there}
+use Rattle.lb_check.proofs.Words.{Variable, ap, clock_in, clock_with, length, ltb-true, refl}
+use Rattle.lb_check.proofs.Words.{slice_get_past, subst, sym, ◌>>=◌, ◌∙◌, ◌≤◌}
+use Rattle.{lb_check.proofs.clocking.ClockSetRows.declared_there, lb_static.proofs.Lookups.held}
 use Rattle.lb_check.proofs.own_clock.declared_clock.Goals as goal
 
 pub returns-in-Some-clause-same : goal.returns-in-Some-clause-same
@@ -29,4 +28,4 @@ pub returns-in-None-clause-mirror : goal.returns-in-None-clause-mirror
 returns-in-None-clause-mirror c =
     let le : length c.args.node.now.variables.items ≤ c.args.variable.0 =
     subst (λ us. length us ≤ c.args.variable.0) c.deref.ensures.value c.in-None.ensures.lookup.3 in
-    declared_nowhere c.args.node.now c.args.variable le
+    rw (slice_get_past c.args.node.now.variables.items c.args.variable.0 le) refl

@@ -1,6 +1,6 @@
-use Rattle.lb_check.proofs.Words.{◌+◌, ap, min, sym, ◌∙◌, arith, option_map, view_type, all_some}
-use Rattle.lb_check.proofs.Words.{row_in}
-use Rattle.lb_check.proofs.typing.SignatureRows.{none_before, size_end, size_more, size_none}
+use Rattle.lb_check.proofs.Words.{None, Some, all_some, ap, arith, drop, min, option_map, row_in}
+use Rattle.lb_check.proofs.{Words.{sym, view_type, ◌+◌, ◌∙◌}, typing.SignatureRows.counted_next}
+use Rattle.lb_check.proofs.typing.SignatureRows.{none_before, size_end, split}
 use Rattle.lb_check.proofs.part_types.given_size.Goals as goal
 
 pub loop-place-init : goal.loop-place-init
@@ -15,18 +15,19 @@ loop-place-preserved c =
     let t = view_type c.in-Some.data_type in
     record {
       counted =
-          size_more (row_in c.args.given.now) l.place l.count l.invariant.counted t
-          c.min-count.result (omega arith)
+          split (row_in c.args.given.now) l.place l.count l.invariant.counted (Some t) (omega arith)
           (sym (ap (option_map view_type) c.in-Some.is) ∙ c.in_ok-data_type.ensures)
-          (c.min-count.ensures ∙ ap (λ n. min (l.count + n) 65537) c.element_count.ensures);
+          ∙ counted_next l.count c.min-count.result t (all_some (drop (l.place + 1)
+          (row_in c.args.given.now))) (c.min-count.ensures ∙ ap (λ n. min (l.count + n) 65537)
+          c.element_count.ensures);
       within = omega arith;
     }
 
 pub returns-in-None : goal.returns-in-None
 returns-in-None c =
     let l = c.loop-place in
-    size_none (row_in c.args.given.now) l.place l.count l.invariant.counted (omega arith)
-    (sym (ap (option_map view_type) c.in-None.is) ∙ c.in_ok-data_type.ensures)
+    sym (split (row_in c.args.given.now) l.place l.count l.invariant.counted None (omega arith)
+    (sym (ap (option_map view_type) c.in-None.is) ∙ c.in_ok-data_type.ensures))
 
 pub returns : goal.returns
 returns c =

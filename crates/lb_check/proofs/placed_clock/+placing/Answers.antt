@@ -1,19 +1,18 @@
 use Rattle.lb_check.proofs.Words
-use Words.{◌≡◌, ◌+◌, [], ◌∷◌, ◌++◌, drop, length, IfOk, ap, ap₂, refl, sym, subst, ◌∙◌, arith}
-use Words.{drop_all, length-map, IsPlaced, called, nested_call, part, placed_all, placed_each}
-use Words.{placed_terms, row_term, with_terms, listed, operand_of, operands_of, known_among}
-use Words.{known_operands, Base, slice_get, determined_clock, infer_clock}
-use Rattle.lb_check.specs.PlacedClocks.{call_clocks, current_clock, found_in, with_term}
-use Rattle.lb_check.{specs.StoredClocks.context_in, proofs.clocking.WalkedClocks.call_placed}
-use Rattle.lb_check.proofs.clocking.WalkedClocks.{choice_placed, current_placed, each_next}
-use Rattle.lb_check.proofs.clocking.WalkedClocks.{flat_next, group_placed, leaf_placed, left_end}
-use Rattle.lb_check.proofs.clocking.WalkedClocks.{left_more, left_past, left_start, operand_placed}
-use Rattle.lb_check.proofs.clocking.WalkedClocks.{operands_placed, placed_as, placed_both}
-use Rattle.lb_check.proofs.clocking.WalkedClocks.{placed_leaf, placed_noted, row_placed}
-use Rattle.lb_check.proofs.clocking.WalkedClocks.{taken_first, call_known, choice_known}
-use Rattle.lb_check.proofs.clocking.WalkedClocks.{current_known, group_known, leaf_known}
-use Rattle.lb_check.proofs.clocking.WalkedClocks.{pair_known, plain_known, row_known}
-use Rattle.lb_check.proofs.definitions.BrokenRules.{if_found}
+use Words.{Base, IfOk, IsPlaced, [], ap, append_assoc, ap₂, arith, called, determined_clock, drop}
+use Words.{drop_all, infer_clock, known_among, known_operands, length, length-map, listed}
+use Words.{nested_call, operand_of, operands_of, part, placed_all, placed_each, placed_terms, refl}
+use Words.{row_term, slice_get, subst, sym, take, with_terms, ◌++◌, ◌+◌, ◌∙◌, ◌∷◌, ◌≡◌}
+use Rattle.lb_check.proofs.clocking.WalkedClocks.{call_placed, called_known, choice_known}
+use Rattle.lb_check.proofs.clocking.WalkedClocks.{choice_placed, current_known, current_placed}
+use Rattle.lb_check.proofs.clocking.WalkedClocks.{each_next, flat_next, group_known, group_placed}
+use Rattle.lb_check.proofs.clocking.WalkedClocks.{leaf_known, leaf_placed, left_end, left_more}
+use Rattle.lb_check.proofs.clocking.WalkedClocks.{operand_placed, operands_placed, pair_known}
+use Rattle.lb_check.proofs.clocking.WalkedClocks.{placed_as, placed_both, placed_noted, plain_known}
+use Rattle.lb_check.proofs.clocking.WalkedClocks.{row_known, row_placed}
+use Rattle.lb_check.{proofs.definitions.BrokenRules.if_found, specs.PlacedClocks.call_clocks}
+use Rattle.lb_check.specs.PlacedClocks.{current_clock, found_in, with_term}
+use Rattle.{lb_check.specs.StoredClocks.context_in, std.proofs.lemmas.List.{drop_at, take_at}}
 use Rattle.lb_check.proofs.placed_clock.+placing.Goals as goal
 
 -- ## Rows
@@ -22,8 +21,7 @@ pub place_all-loop-term-init : goal.place_all-loop-term-init
 place_all-loop-term-init t c =
     let ctx = context_in c.args.env.now in
     let es = c.args.terms.now in
-    left_start (known_among ctx es) (placed_all ctx c.args.clock es) (found_in c.args.placed.now)
-    c.args.known.now
+    (λ others is. (is, refl))
 
 pub place_all-loop-term-preserved : goal.place_all-loop-term-preserved
 place_all-loop-term-preserved t c =
@@ -77,8 +75,7 @@ pub place_each-loop-i-init : goal.place_each-loop-i-init
 place_each-loop-i-init t c =
     let ctx = context_in c.args.env.now in
     let es = c.args.terms.now in
-    left_start (known_among ctx es) (placed_each ctx c.args.clocks.now es)
-    (found_in c.args.placed.now) c.args.known.now
+    (λ others is. (is, refl))
 
 pub place_each-loop-i-preserved : goal.place_each-loop-i-preserved
 place_each-loop-i-preserved t c =
@@ -126,7 +123,7 @@ place-returns-in_ok-note-in-Literal t c =
     let term = c.args.term.now in
     placed_as _ _ _ _ _ _ _ _ (leaf_known ctx term c.in-Literal.is)
     (leaf_placed ctx c.args.clock term c.in-Literal.is)
-    (placed_leaf (part c.args.clock) _ _ _ c.in_ok-note-in-Literal.ensures)
+    (λ others is. (is, c.in_ok-note-in-Literal.ensures))
 
 pub place-returns-in_ok-note-in-Unary : goal.place-returns-in_ok-note-in-Unary
 place-returns-in_ok-note-in-Unary t c =
@@ -235,7 +232,7 @@ place-returns-in_ok-clocks-in-Call t c =
     let own = known_among ctx es.items in
     if_found c.place_each.result _ _ c.place_each.ensures
     (λ left p. placed_as (os ++ own) _ _ _ _ _ _ _
-    (call_known ctx term call es c.in-Call.is)
+    (ap (known_operands ctx) c.in-Call.is ∙ called_known ctx call es)
     (ap (placed_terms ctx k) c.in-Call.is ∙ call_placed ctx k call es)
     (λ others is.
     let all = length-map es.items (operand_of ctx) in
@@ -243,9 +240,11 @@ place-returns-in_ok-clocks-in-Call t c =
     let more : length os ≡ c.len-in-Call.result = omega (arith, all, c.len-in-Call.ensures) in
     let operands =
     c.part_of-operands.ensures
-    ∙ taken_first os own others known c.len.result long is in
+    ∙ (ap (take c.len.result) (is ∙ append_assoc os own others) ∙ take_at os (own ++ others)
+    c.len.result long) in
     let within =
-    c.past-in-Call.ensures ∙ left_past os own others known c.len-in-Call.result more is in
+    c.past-in-Call.ensures ∙ (ap (drop c.len-in-Call.result) (is ∙ append_assoc os own others)
+    ∙ drop_at os (own ++ others) c.len-in-Call.result more) in
     let first =
     c.in_ok-note_call-in-Call.ensures
     ∙ ap (λ f. with_term old (called k f)) (c.in_ok-found-in-Call.ensures

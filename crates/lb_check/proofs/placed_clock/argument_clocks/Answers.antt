@@ -1,9 +1,8 @@
 -- The clocks that are done stand before those that are left.
-use Rattle.lb_check.proofs.Words.{◌≡◌, ℕ, ◌+◌, ◌<◌, List, [], ◌∷◌, ◌++◌, length, get_or, drop, map}
-use Rattle.lb_check.proofs.Words.{Option, Some, None, ap, sym, refl, ◌∙◌, expected, either_or}
-use Rattle.lb_check.proofs.Words.{given_in, Variable, VariableId, Compared}
-use Rattle.std.specs.Option.{unwrap_or}
-use Rattle.lb_check.proofs.lists.ListPairs.{mapped_next, mapped_end}
+use Rattle.lb_check.proofs.Words.{Compared, List, None, Option, Some, Variable, VariableId, [], ap}
+use Rattle.lb_check.proofs.Words.{drop, either_or, expected, get_or, given_in, length, map, refl}
+use Rattle.lb_check.proofs.Words.{sym, ℕ, ◌++◌, ◌+◌, ◌<◌, ◌∙◌, ◌∷◌, ◌≡◌}
+use Rattle.{lb_check.proofs.lists.ListPairs.{mapped_end, mapped_next}, std.specs.Option.unwrap_or}
 use Rattle.lb_check.proofs.placed_clock.argument_clocks.Goals as goal
 
 abbrev clock_of : Compared → (ℕ → Option VariableId) → Variable → Compared

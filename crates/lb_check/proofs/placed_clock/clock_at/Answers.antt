@@ -1,5 +1,4 @@
-use Rattle.lb_check.proofs.Words.{refl, ◌∙◌}
-use Rattle.lb_static.proofs.Lookups.{looked_up}
+use Rattle.{lb_check.proofs.Words.{refl, ◌∙◌}, lb_static.proofs.Lookups.looked_up}
 use Rattle.lb_check.proofs.placed_clock.clock_at.Goals as goal
 
 pub returns : goal.returns

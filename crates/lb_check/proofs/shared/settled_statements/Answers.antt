@@ -1,7 +1,6 @@
-use Rattle.lb_check.proofs.Words.{◌≡◌, true, ap, subst, sym, ◌∙◌, slice_get, IsJudgedPart}
-use Rattle.lb_check.proofs.Words.{AreSettled, is_part_shared}
-use Rattle.lb_check.{specs.TermTypes.context_of, proofs.typing.SharedTypes.same_node}
-use Rattle.lb_check.proofs.typing.SharedTypes.{still_settled}
+use Rattle.lb_check.proofs.Words.{AreSettled, IsJudgedPart, ap, is_part_shared, slice_get, subst}
+use Rattle.lb_check.proofs.{Words.{sym, true, ◌∙◌, ◌≡◌}, typing.SharedTypes.same_node}
+use Rattle.lb_check.{proofs.typing.SharedTypes.still_settled, specs.TermTypes.context_of}
 use Rattle.lb_check.proofs.shared.settled_statements.Goals as goal
 
 pub returns-in-Some : goal.returns-in-Some

@@ -1,5 +1,4 @@
-use Rattle.lb_check.proofs.Words.{IsJudgedPart}
-use Rattle.std.proofs.lemmas.List.Elements.{All-push}
+use Rattle.{lb_check.proofs.Words.IsJudgedPart, std.proofs.lemmas.List.Elements.All-push}
 use Rattle.lb_check.proofs.shared.shared_parts.Goals as goal
 
 pub loop-part-preserved : goal.loop-part-preserved

@@ -1,7 +1,6 @@
 -- The statements that are judged stand before those that are left.
-use Rattle.lb_check.proofs.Words.{ap, ◌∙◌, map, context_in, is_resolved_statement_typed}
-use Rattle.std.proofs.lemmas.List.{take_all}
-use Rattle.lb_check.proofs.lists.ListPairs.{taken_more}
+use Rattle.lb_check.proofs.Words.{ap, context_in, is_resolved_statement_typed, map, ◌∙◌}
+use Rattle.{lb_check.proofs.lists.ListPairs.taken_more, std.proofs.lemmas.List.take_all}
 use Rattle.lb_check.proofs.shared.typed_statements.Goals as goal
 
 pub loop-statement-preserved : goal.loop-statement-preserved

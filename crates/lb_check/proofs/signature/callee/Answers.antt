@@ -1,8 +1,7 @@
 -- The signature of the callee of a call, if there is one, by its specialization and its node.
-use Rattle.std.proofs.Common.{Bor}
-use Rattle.lb_check.proofs.Words.{ap, sym, ◌∙◌, option_map, either_or, Specialization}
-use Rattle.lb_static.proofs.Lookups.{held, past}
+use Rattle.lb_check.proofs.Words.{Specialization, ap, either_or, option_map, sym, ◌∙◌}
 use Rattle.lb_check.specs.TermSignatures.{callee_signature, declared_signature, nothing}
+use Rattle.{lb_static.proofs.Lookups.{held, past}, std.proofs.Common.Bor}
 use Rattle.lb_check.proofs.signature.callee.Goals as goal
 
 pub returns-in-Some-get : goal.returns-in-Some-get

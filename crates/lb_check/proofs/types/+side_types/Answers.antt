@@ -1,8 +1,8 @@
-use Rattle.lb_check.proofs.Words.{ap, ◌∙◌, subst, sym, option_map, context_in, calls_in, given_of}
-use Rattle.lb_check.proofs.Words.{kept_in, row_in, singly}
+use Rattle.lb_check.proofs.Words.{ap, calls_in, context_in, given_of, kept_in, option_map, row_in}
+use Rattle.lb_check.proofs.{Words.{singly, subst, sym, ◌∙◌}, definitions.BrokenRules.if_found}
+use Rattle.lb_check.proofs.typing.{SignatureRows.calls_are, TypeRows.{list_results, list_type_is}}
+use Rattle.lb_check.proofs.typing.WalkedTypes.{given_noted, side_group}
 use Rattle.lb_check.specs.{PlacedTypes.IsRowWalked, TermSignatures.results_in}
-use Rattle.lb_check.proofs.{definitions.BrokenRules.if_found, typing.SignatureRows.calls_are}
-use Rattle.lb_check.proofs.typing.WalkedTypes.{given_noted, list_one, side_group}
 use Rattle.lb_check.proofs.types.+side_types.Goals as goal
 
 pub returns-in-Group : goal.returns-in-Group
@@ -33,6 +33,8 @@ returns-in_ok-own-in-Array t c =
     let es = c.in-Array.terms in
     let w = c.in_ok-own-in-Array.ensures (es, c.in-Array.is, c.deref-in-Array.ensures.value) in (
       ap singly w.0
-          ∙ sym (list_one (context_in c.args.env.now) c.args.term.now es c.in-Array.is),
+          ∙ sym (list_results (context_in c.args.env.now) c.args.term.now es c.in-Array.is
+          ∙ ap singly (sym (list_type_is (context_in c.args.env.now) c.args.term.now es
+          c.in-Array.is))),
       w.1,
     )

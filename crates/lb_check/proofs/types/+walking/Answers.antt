@@ -1,20 +1,20 @@
 -- The parts that are noted for a term, by its form.
-use Rattle.lb_check.proofs.Words.{◌≡◌, ◌+◌, ◌++◌, ◌-◌, ◌∷◌, length, map, drop, inl, ap, sym, subst}
-use Rattle.lb_check.proofs.Words.{◌∙◌, arith, ◌&&◌, option_map, length-map, ◌>>=◌, where_true}
-use Rattle.lb_check.proofs.Words.{view_type, IsWalked, kept_in, placed_all_types, placed_types}
-use Rattle.lb_check.proofs.Words.{context_in, are_met, are_one, arrays, calls_in, common, given_of}
-use Rattle.lb_check.proofs.Words.{has_arity, like_later, list_of, outcome, row_in, signature_in}
-use Rattle.lb_check.proofs.Words.{type_at, one_type, type_of, when_both, when_truth, common_type}
-use Rattle.lb_check.specs.{PlacedTypes.IsRowWalked, TermSignatures.signature}
+use Rattle.lb_check.proofs.Words
+use Words.{IsWalked, ap, are_met, are_one, arith, arrays, calls_in, common, common_type, context_in}
+use Words.{drop, given_of, has_arity, inl, kept_in, length, length-map, like_later, list_of, map}
+use Words.{one_type, option_map, outcome, placed_all_types, placed_types, row_in, signature_in}
+use Words.{singly, subst, sym, type_at, type_of, view_type, when_both, when_truth, where_true, ◌&&◌}
+use Words.{◌++◌, ◌+◌, ◌-◌, ◌>>=◌, ◌∙◌, ◌∷◌, ◌≡◌}
 use Rattle.lb_check.proofs.{definitions.BrokenRules.if_found, typing.SignatureRows.calls_are}
 use Rattle.lb_check.proofs.typing.SignatureRows.{fits_end, fits_more, fits_start, like_next}
-use Rattle.lb_check.proofs.typing.TypeRows.{pair_type, choice_result, single_result}
-use Rattle.lb_check.proofs.typing.{TypeRows.{pair_result, row_placed}, WalkedTypes.list_decided}
-use Rattle.lb_check.proofs.typing.WalkedTypes.{row_decided, choice_type, further, later, later_all}
-use Rattle.lb_check.proofs.typing.WalkedTypes.{later_length, later_more, later_none, list_from}
-use Rattle.lb_check.proofs.typing.WalkedTypes.{list_one, noted_all, noted_more, noted_none}
-use Rattle.lb_check.proofs.typing.WalkedTypes.{returns_given, returns_group, returns_one}
-use Rattle.lb_check.proofs.typing.WalkedTypes.{single_from}
+use Rattle.lb_check.proofs.typing.{SignatureRows.list_is, TypeRows.{choice_result, list_results}}
+use Rattle.lb_check.proofs.typing.TypeRows.{list_type_is, pair_result, pair_type, row_placed}
+use Rattle.lb_check.proofs.typing.{TypeRows.single_result, WalkedTypes.{choice_type, further}}
+use Rattle.lb_check.proofs.typing.WalkedTypes.{later, later_all, later_length, later_more}
+use Rattle.lb_check.proofs.typing.WalkedTypes.{later_none, list_decided, noted_all, noted_more}
+use Rattle.lb_check.proofs.typing.WalkedTypes.{noted_none, returns_given, returns_group}
+use Rattle.lb_check.proofs.typing.WalkedTypes.{returns_one, row_decided, single_from}
+use Rattle.lb_check.specs.{PlacedTypes.IsRowWalked, TermSignatures.signature}
 use Rattle.lb_check.proofs.types.+walking.Goals as goal
 
 -- ## The elements of a list
@@ -179,8 +179,9 @@ walk_array-returns t c = λ h.
     subst (λ l. IsRowWalked ctx l before mid own list_of) h.2 c.in_ok-own.ensures in
     returns_one ctx before mid (kept_in c.note_one.new.parts) c.note_one.result term
     (placed_all_types ctx es.items) own
-    (list_one ctx term es h.1, row_placed ctx term es (inl h.1))
-    (w.0 ∙ list_from ctx term es h.1) w.1
+    (list_results ctx term es h.1 ∙ ap singly (sym (list_type_is ctx term es h.1)), row_placed ctx
+    term es (inl h.1))
+    (w.0 ∙ (sym (list_is (map (type_of ctx) es.items)) ∙ sym (list_type_is ctx term es h.1))) w.1
     c.note_one.ensures.same c.note_one.ensures.noted
 
 pub walk_given-returns : goal.walk_given-returns

@@ -1,6 +1,5 @@
-use Rattle.lb_check.proofs.Words.{[], refl, ◌∙◌, option_map, view_type, kept_in, context_in}
-use Rattle.lb_check.proofs.typing.{TypeRows.leaf_result, WalkedTypes.leaf_is}
-use Rattle.lb_check.proofs.typing.WalkedTypes.{returns_one}
+use Rattle.lb_check.proofs.Words.{[], context_in, kept_in, option_map, refl, view_type, ◌∙◌}
+use Rattle.lb_check.proofs.typing.{TypeRows.leaf_result, WalkedTypes.{leaf_is, returns_one}}
 use Rattle.lb_check.proofs.types.walk_leaf.Goals as goal
 
 pub returns : goal.returns

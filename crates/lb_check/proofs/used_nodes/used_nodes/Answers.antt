@@ -1,7 +1,8 @@
-use Rattle.lb_check.proofs.Words.{◌+◌, rules, sym, ap, ◌∙◌, subst, with_items_is, places}
-use Rattle.lb_check.proofs.typing.Specializations.{AreFirst, AreThere, added_first, added_there}
-use Rattle.lb_check.proofs.typing.Specializations.{all_first, known_first, known_there}
-use Rattle.lb_check.proofs.used_nodes.used_nodes.Goals.{then-flag+in_ok-push, else-flag}
+use Rattle.lb_check.proofs.Words.{ap, append_assoc, drop, find, places, rules, subst, sym}
+use Rattle.lb_check.proofs.Words.{with_items_is, ◌++◌, ◌+◌, ◌∙◌, ◌∷◌}
+use Rattle.lb_check.proofs.typing.Specializations.{AreFirst, AreThere, added_there, all_first}
+use Rattle.lb_check.proofs.typing.Specializations.{known_first, known_there, next_node, nodes_in}
+use Rattle.lb_check.proofs.used_nodes.used_nodes.Goals.{else-flag, then-flag+in_ok-push}
 use Rattle.lb_check.proofs.used_nodes.used_nodes.Goals as goal
 
 pub loop-specialization-preserved : goal.loop-specialization-preserved
@@ -22,7 +23,9 @@ loop-specialization-preserved c =
       | then-flag+in_ok-push w ↦ (
           let items = ap (λ v. v.items) w.ids-is ∙ w.in_ok-push.ensures.items in (
             subst (λ xs. AreFirst xs (i + 1) ss) (sym items)
-                (added_first ids old new ss i s lt is there flagged inv.0),
+                (λ f. ap (find f) (append_assoc ids _ (nodes_in (drop (i + 1) ss))
+                ∙ ap (λ ks. ids ++ ks) (sym (next_node ids old new ss i s lt is there flagged)))
+                ∙ inv.0 f),
             subst (λ fs. AreThere c.if-flag.ids.items fs) flags
                 (subst (λ xs. AreThere xs new) (sym items)
                 (added_there ids old new ss i s lt is there flagged)),

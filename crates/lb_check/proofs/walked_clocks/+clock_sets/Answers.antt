@@ -1,10 +1,9 @@
-use Rattle.lb_check.proofs.Words.{◌≡◌, [], ◌++◌, ap, ◌∙◌, rules, variable_of, both}
-use Rattle.lb_check.proofs.Words.{row_clock_set, OneClock}
-use Rattle.lb_check.specs.StoredClocks.{context_in}
-use Rattle.lb_check.proofs.clocking.WalkedClocks.{row_end, row_more, row_start, walked_call}
+use Rattle.lb_check.proofs.Words.{OneClock, [], ap, both, row_clock_set, rules, variable_of, ◌++◌}
+use Rattle.lb_check.proofs.{Words.{◌∙◌, ◌≡◌}, clocking.WalkedClocks.{row_end, row_more, row_start}}
+use Rattle.lb_check.proofs.clocking.WalkedClocks.{row_walked_at, walked_at, walked_call}
 use Rattle.lb_check.proofs.clocking.WalkedClocks.{walked_choice, walked_current, walked_free}
 use Rattle.lb_check.proofs.clocking.WalkedClocks.{walked_pair, walked_plain, walked_row}
-use Rattle.lb_check.proofs.clocking.WalkedClocks.{row_walked_at, walked_at, walked_variable}
+use Rattle.lb_check.{proofs.clocking.WalkedClocks.walked_variable, specs.StoredClocks.context_in}
 use Rattle.lb_check.proofs.walked_clocks.+clock_sets.Goals as goal
 
 -- ## Rows

@@ -1,6 +1,5 @@
 -- A checked program keeps the rules.
-use Rattle.lb_check.proofs.Words.{subst}
-use Rattle.lb_check.specs.LawfulPrograms.{IsChecked}
+use Rattle.lb_check.{proofs.Words.subst, specs.LawfulPrograms.IsChecked}
 use Rattle.lb_check.proofs.checked.Checked.signature.Goals as goal
 
 pub returns-clause-lawful : goal.returns-clause-lawful

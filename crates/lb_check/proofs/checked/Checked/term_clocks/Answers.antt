@@ -1,8 +1,6 @@
 -- What is found of the node at this place, if there is one.
-use Rattle.lb_check.proofs.Words.{◌∙◌, subst}
-use Rattle.lb_check.specs.LawfulPrograms.{IsChecked}
-use Rattle.lb_check.specs.declared.found_clocks.NodeClocks.{NodeClocks}
-use Rattle.lb_check.proofs.clocking.KeptNodes.{kept_at, kept_past}
+use Rattle.lb_check.proofs.{Words.{subst, ◌∙◌}, clocking.KeptNodes.{kept_at, kept_past}}
+use Rattle.lb_check.specs.{LawfulPrograms.IsChecked, declared.found_clocks.NodeClocks.NodeClocks}
 use Rattle.lb_check.proofs.checked.Checked.term_clocks.Goals as goal
 
 pub returns-in-Some-clause-value : goal.returns-in-Some-clause-value

@@ -1,7 +1,6 @@
 -- The types of the specialization at this place, if there are any.
-use Rattle.lb_check.proofs.Words.{ap, sym, ◌∙◌, subst, ◌>>=◌, slice_get}
-use Rattle.lb_check.specs.LawfulPrograms.{IsChecked}
-use Rattle.lb_check.specs.declared.checked.Checking.{Checking}
+use Rattle.lb_check.proofs.Words.{ap, slice_get, subst, sym, ◌>>=◌, ◌∙◌}
+use Rattle.lb_check.specs.{LawfulPrograms.IsChecked, declared.checked.Checking.Checking}
 use Rattle.lb_static.proofs.Lookups.{looked_up}
 use Rattle.lb_check.proofs.checked.Checked.term_types.Goals as goal
 

@@ -1,7 +1,6 @@
 -- The call site at this place, if there is one.
-use Rattle.lb_check.proofs.Words.{ap, sym, ◌∙◌, ◌>>=◌, repeats_of}
+use Rattle.lb_check.{proofs.Words.{ap, repeats_of, sym, ◌>>=◌, ◌∙◌}, specs.TermTypes.context_of}
 use Rattle.lb_static.proofs.Lookups.{held, past}
-use Rattle.lb_check.specs.TermTypes.{context_of}
 use Rattle.lb_check.proofs.type_env.TypeEnv.repeats.Goals as goal
 
 pub returns : goal.returns

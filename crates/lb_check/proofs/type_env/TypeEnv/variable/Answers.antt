@@ -1,17 +1,8 @@
 -- The type of the variable at this place, if there is one.
-use Rattle.lb_check.proofs.Words.{◌≡◌, ℤ, List, [], Some, ap, sym, ◌∙◌, subst, IfOk, ◌>>=◌}
-use Rattle.lb_check.proofs.Words.{option_map, reverse, declared_type, view_type, Variable}
-use Rattle.lb_static.proofs.Lookups.{held, past}
-use Rattle.lb_check.specs.TermTypes.{context_of}
-use Rattle.lb_static.specs.StoredTypes.{sizes_at}
+use Rattle.lb_check.proofs.Words.{IfOk, Some, ap, declared_type, option_map, reverse, subst, sym}
+use Rattle.lb_check.{proofs.Words.{view_type, ◌>>=◌, ◌∙◌, ◌≡◌}, specs.TermTypes.context_of}
+use Rattle.lb_static.{proofs.Lookups.{held, past}, specs.StoredTypes.sizes_at}
 use Rattle.lb_check.proofs.type_env.TypeEnv.variable.Goals as goal
-
--- a variable without sizes is a scalar
-scalar_type : (statics : List ℤ) (v : Variable) → v.sizes ≡ 0
-    → declared_type statics v ≡ Some (record { kind = v.kind; sizes = [] })
-scalar_type statics v e =
-    ap (λ n. option_map (λ ns. record { kind = v.kind; sizes = reverse ns })
-    (sizes_at statics v.first_size n)) e
 
 pub returns-in-Some : goal.returns-in-Some
 unfolding context_of
@@ -21,7 +12,9 @@ returns-in-Some c =
     ∙ sym (ap (λ o. o >>= declared_type statics)
     (held c.deref.result.now c.args.self.now.node.now.variables.items c.args.x.0
     c.in-Some.variable.now c.deref.ensures.value c.in-Some.ensures.lookup.3.0
-    c.in-Some.ensures.lookup.1) ∙ scalar_type statics c.in-Some.variable.now c.if-variable-eq0.true)
+    c.in-Some.ensures.lookup.1) ∙ ap (λ n. option_map (λ ns. record { kind =
+    c.in-Some.variable.now.kind; sizes = reverse ns }) (sizes_at statics
+    c.in-Some.variable.now.first_size n)) c.if-variable-eq0.true)
 
 pub returns-in-Some-2 : goal.returns-in-Some-2
 unfolding context_of
