@@ -8,11 +8,9 @@ use Rattle.lb_static.specs.Signature.{Elements}
 use Rattle.lb_check.specs.declared.verdict.Verdict.{Verdict}
 use Rattle.lb_traces.specs.Traces.{Recording}
 use Rattle.lb_flat.specs.declared.program.FlatProgram.{FlatProgram}
-use Rattle.lb_trace.specs.declared.error.TraceError.{TraceError}
 use Rattle.lb_trace.specs.declared.round.RoundReader.{RoundReader}
 use Rattle.lb_trace.specs.declared.table.ColumnTable.{ColumnTable}
 use Rattle.lb_trace.specs.Chunks.{is_ended}
-use Rattle.lb_trace.specs.Errors.{error_number}
 use Rattle.lb_trace.specs.Lines.{after_line, record_of}
 use Rattle.lb_trace.specs.Plain.{has_quote, plain_records}
 use Rattle.lb_trace.specs.Refusals.{then_read, with_records}
@@ -24,12 +22,12 @@ use Rattle.lb_trace.specs.Tables.{columns_in}
 use Rattle.lb_trace.proofs.PlainRecordings.{begun-more}
 use Rattle.lb_trace.proofs.Readings.{with_records-append}
 use Rattle.lb_pool.specs.Correct.{AreVerdicts}
-use Rattle.lb_feed.specs.Windows.{HasRead, HasTaken, IsWindow, Left, text_in}
+use Rattle.lb_feed.specs.Windows.{HasRead, HasTaken, Left, text_in}
 use Rattle.lb_feed.specs.declared.window.Window.{Window}
 use Rattle.lb_feed.proofs.WindowReads.{fault_on, read_none, read_on}
 use Rattle.lb_report.specs.JudgedParts.{HasRoll, IsHalt, IsJudgedPart, IsMoreRead, IsNamed}
 use Rattle.lb_report.specs.JudgedParts.{IsPartRead}
-use Rattle.lb_report.specs.JudgedParts.{IsOutOfMemory, IsPiecesJudged, IsReadOn, IsReading, IsState}
+use Rattle.lb_report.specs.JudgedParts.{IsOutOfMemory, IsPiecesJudged, IsReadOn, IsReading}
 use Rattle.lb_report.specs.JudgedParts.{IsReadingOf, IsRestDone, IsRestHalted, IsRestRead, IsSpent}
 use Rattle.lb_report.specs.Pieces.{AreAdded, BeginsWith, IsAllRead, IsCut, IsCutAt, IsFilling}
 use Rattle.lb_report.specs.Pieces.{IsFrontRead, IsReadToCut, IsReadToLine, IsReadToQuote}

@@ -1,7 +1,7 @@
 -- Pieces of whole traces at the front of a text, one after the other: their bytes and records.
 use Rattle.std.proofs.Common.{ℕ, zero, suc, ◌≡◌, ◌⊎◌, ◌<◌, ◌≤◌, ◌-◌, ◌||◌, Bool, true, false, List}
 use Rattle.std.proofs.Common.{[], ◌∷◌, ◌++◌, length}
-use Rattle.std.proofs.Common.{refl, sym, ap, ◌∙◌, subst, append_assoc, inl, inr, ⊎_elim, arith}
+use Rattle.std.proofs.Common.{refl, sym, ap, ◌∙◌, append_assoc, inl, inr, ⊎_elim, arith}
 use Rattle.std.proofs.Common.{drop}
 use Rattle.std.proofs.Common.{take, length-append, if◌then◌else◌, ◌+◌}
 use Rattle.std.proofs.lemmas.Bool.{false≢true}

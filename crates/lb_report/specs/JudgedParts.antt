@@ -20,7 +20,6 @@ use Rattle.lb_trace.specs.Tables.{columns_in}
 use Rattle.lb_trace.specs.Texts.{IsHead}
 use Rattle.lb_pool.specs.Correct.{AreVerdicts}
 use Rattle.lb_feed.specs.Windows.{HasRead, HasTaken, IsLoadFault, IsWindow, Left, text_in}
-use Rattle.lb_feed.specs.declared.feed.LoadError.{LoadError}
 use Rattle.lb_feed.specs.declared.window.Window.{Window}
 use Rattle.lb_report.specs.Pieces.{BeginsWith, IsAllRead, IsFrontRead, IsOpenRound}
 use Rattle.lb_report.specs.declared.pieces.Cut.{Cut}

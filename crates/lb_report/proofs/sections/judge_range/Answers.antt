@@ -21,8 +21,8 @@ returns-in_err-window g c =
     IsRangeTold p elements c.args.table.now bytes c.args.start c.args.past c.args.is_last in
     failed_as Is c.from_residual.result (Refused (Memory e)) c.from_residual.ensures.1 refl
 
-pub returns-then-feed-past : goal.returns-then-feed-past
-returns-then-feed-past g c =
+pub returns-then-at-past : goal.returns-then-at-past
+returns-then-at-past g c =
     let p = c.args.rounds.now.runner.program.now.program.now in
     let elements = c.args.rounds.now.signature.now in
     let bytes = g.F.PlacedFile.bytes c.args.file.now in
@@ -38,8 +38,9 @@ returns-then-feed-past g c =
       | else-is_last+then-is_ended w ↦
           inr (
             sym w.is_ended.ensures ∙ w.if-is_ended.true,
-            eqb-true feed.at c.args.past (sym w.value-is ∙ c.if-feed-past.true),
+            sym c.at-at.ensures
+                ∙ eqb-true c.at-at.result c.args.past (sym w.value-is ∙ c.if-at-past.true),
           )
       | else-is_last+else-is_ended w ↦
-          absurd (false≢true (cc (w.if-is_ended.false, w.value-is, c.if-feed-past.true)))
+          absurd (false≢true (cc (w.if-is_ended.false, w.value-is, c.if-at-past.true)))
     ])

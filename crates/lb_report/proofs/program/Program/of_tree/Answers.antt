@@ -1,5 +1,5 @@
 -- Each part refuses only what the parts before it accept.
-use Rattle.std.proofs.Common.{◌≡◌, ◌∙◌, Ok, Err, None, ap, sym, subst}
+use Rattle.std.proofs.Common.{◌≡◌, ◌∙◌, Ok, Err, None, ap, subst}
 use Rattle.std.proofs.lemmas.Result.{err_from_is_err_and}
 use Rattle.lb_syntax.specs.SourceView.{view_source}
 use Rattle.lb_static.specs.Elaborated.{IsElaborated, elaborated_program}
