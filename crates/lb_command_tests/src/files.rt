@@ -300,10 +300,7 @@ fn part_with_a_bad_cell(rt: HostRuntime) -> Result<(), Fail> {
 static REFUSED_LINES: Case = Case {
     files: &[
         ("@lines.lus", SOURCE),
-        (
-            "@lines.csv",
-            "trace,x\r\na,3\r\n\r\nb,x\r\nc,1\r\nd,2\r\n",
-        ),
+        ("@lines.csv", "trace,x\r\na,3\r\n\r\nb,x\r\nc,1\r\nd,2\r\n"),
     ],
     runs: &[(
         "lbench --explain --node plant --observe small --part 2/2 @lines.lus @lines.csv",

@@ -201,7 +201,8 @@ fn judge_range<R: Threads + Sync, F: PlacedFile>(
     let mut window = Window::new(rounds.alloc, rounds.window)?;
     let mut feed = RangeFeed::new(file, start, past);
     let judged = rounds.judge_section(rt, &mut feed, &mut window, table)?;
-    if is_last || (window.is_ended() && feed.at() == past) {
+    let at = feed.at();
+    if is_last || (window.is_ended() && at == past) {
         Ok(judged)
     } else {
         Err(Halt::Quoted)

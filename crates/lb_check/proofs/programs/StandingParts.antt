@@ -239,9 +239,11 @@ module _ (P : Program) (here : Instance) (V : Name → Type 0)
       (sited_first _ n (statement_sites s) (flat_map statement_sites ss) w) in
       let later = body_stands m ss (and_second (is_statement_typed P here s) _ typed)
       (aft P here Q oa ob h)
-      (sited_second _ n (statement_sites s) (flat_map statement_sites ss) w) in
-      (Every-append Stands oa ob (on_parts P here.node Stands operands_stand k n (right_side s)
-      first.0) later.0, (first, later.1))
+      (sited_second _ n (statement_sites s) (flat_map statement_sites ss) w) in (
+        Every-append Stands oa ob (on_parts P here.node Stands operands_stand k n (right_side s)
+            first.0) later.0,
+        (first, later.1),
+      )
 
   -- the parts and the statements of a node that keeps the rules stand
   pub node_stands :

@@ -178,9 +178,11 @@ walk_array-returns t c = λ h.
     let w : IsRowWalked ctx es.items before mid own list_of =
     subst (λ l. IsRowWalked ctx l before mid own list_of) h.2 c.in_ok-own.ensures in
     returns_one ctx before mid (kept_in c.note_one.new.parts) c.note_one.result term
-    (placed_all_types ctx es.items) own
-    (list_results ctx term es h.1 ∙ ap singly (sym (list_type_is ctx term es h.1)), row_placed ctx
-    term es (inl h.1))
+    (placed_all_types ctx es.items) own (
+      list_results ctx term es h.1 ∙ ap singly (sym (list_type_is ctx term es h.1)),
+      row_placed ctx
+          term es (inl h.1),
+    )
     (w.0 ∙ (sym (list_is (map (type_of ctx) es.items)) ∙ sym (list_type_is ctx term es h.1))) w.1
     c.note_one.ensures.same c.note_one.ensures.noted
 

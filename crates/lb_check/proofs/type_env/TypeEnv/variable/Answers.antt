@@ -12,8 +12,11 @@ returns-in-Some c =
     ∙ sym (ap (λ o. o >>= declared_type statics)
     (held c.deref.result.now c.args.self.now.node.now.variables.items c.args.x.0
     c.in-Some.variable.now c.deref.ensures.value c.in-Some.ensures.lookup.3.0
-    c.in-Some.ensures.lookup.1) ∙ ap (λ n. option_map (λ ns. record { kind =
-    c.in-Some.variable.now.kind; sizes = reverse ns }) (sizes_at statics
+    c.in-Some.ensures.lookup.1) ∙ ap (λ n. option_map (λ ns. record {
+      kind =
+          c.in-Some.variable.now.kind;
+      sizes = reverse ns;
+    }) (sizes_at statics
     c.in-Some.variable.now.first_size n)) c.if-variable-eq0.true)
 
 pub returns-in-Some-2 : goal.returns-in-Some-2
