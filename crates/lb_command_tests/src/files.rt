@@ -295,8 +295,8 @@ fn part_with_a_bad_cell(rt: HostRuntime) -> Result<(), Fail> {
     expect_answer(&rt, folder.as_str(), &REFUSED_PART)
 }
 
-/// The same where lines end with a carriage return and a newline, and one is empty. The second part
-/// begins with the bad cell.
+/// A bad cell with which the second part begins. Lines end with a carriage return and a newline, and
+/// one line is empty.
 static REFUSED_LINES: Case = Case {
     files: &[
         ("@lines.lus", SOURCE),
