@@ -2,7 +2,6 @@
 -- This file says what data of the program mean; no definition of the language stands on it.
 use Rattle.std.specs.Prelude.{◌≡◌, Bool, false, Some}
 use Rattle.lb_syntax.specs.Lists.{In}
-use Rattle.lb_syntax.specs.Tree.{Name}
 use Rattle.lb_static.specs.Instances.{Program, Instance, instances}
 use Rattle.lb_static.specs.ReachedNodes.{tree_at}
 use Rattle.lb_static.specs.declared.reachable.NodeId.{NodeId}
@@ -16,10 +15,3 @@ abbrev pub IsBroken :
 IsBroken rule part_rule P r id part =
     (here : Instance) × In here (instances P) × (tree_at r id ≡ Some here.node)
     × (rule here ≡ false) × (part_rule here part ≡ false)
-
--- an instance of a node with name `x` breaks `rule`, and part `part` of it breaks `part_rule`
-abbrev pub IsBrokenIn :
-    (rule : Instance → Bool) (part_rule : Instance → Part → Bool) → Program → Name → Part → Type 0
-IsBrokenIn rule part_rule P x part =
-    (here : Instance) × In here (instances P) × (here.node.name ≡ x) × (rule here ≡ false)
-    × (part_rule here part ≡ false)

@@ -2,26 +2,22 @@
 
 ghost use Rattle.std.specs.Prelude.{◌≡◌, IfOk, MatchResult, None, map, true};
 ghost use Rattle.std.specs.List.{list_all};
-ghost use Rattle.lb_static.specs.Elaborated.{elaborated_program, IsLawful};
+ghost use Rattle.lb_static.specs.Elaborated.{IsLawful};
 ghost use Rattle.lb_static.specs.Instances.{Program, instances};
 ghost use Rattle.lb_check.specs.Acceptance.{check_refusal};
-ghost use Rattle.lb_check.specs.ClockRules.{is_clocked};
-ghost use Rattle.lb_check.specs.Correct.{IsAnswer};
+ghost use Rattle.lb_check.specs.Correct.{IsCheckAnswer, IsFirstBroken};
 ghost use Rattle.lb_check.specs.JudgedPrograms.{IsJudged};
 ghost use Rattle.lb_check.specs.PlacedClocks.{found_in, node_terms, nothing_found, with_terms};
 ghost use Rattle.lb_check.specs.PlacedTypes.{AreFound};
 ghost use Rattle.lb_check.specs.TypeRules.{is_typed};
 
 use crate::checked::{Checked, Checking};
-use crate::clock_cause::clock_error;
 use crate::clock_rules::program_clocks;
-use crate::definition_cause::definition_error;
 use crate::definition_rules::ill_defined;
-use crate::error::CheckError;
 use crate::found_clocks::NodeClocks;
 use crate::found_types::NodeTypes;
 use crate::judged_types::judged_types;
-use crate::type_cause::type_error;
+use crate::refused::{Broken, Refused};
 use lb_static::{Elab, Reached, Table};
 use std::alloc::{AllocError, Global};
 
@@ -34,72 +30,76 @@ struct Found {
     types: Option<Vec<NodeTypes>>,
 }
 
-/// Refuses a program that keeps the rules of types and clocks, but breaks one of definitions (E11),
-/// over all instances.
-fn judge_definitions(alloc: Global, reached: &Reached, table: &Table) -> Result<(), CheckError>
-    ensures { (P : Program) → IsJudged P reached.now table.now
-        → list_all (is_typed P) (instances P) ≡ true
-        → list_all (λ here. is_clocked P here.node) (instances P) ≡ true
-        → MatchResult result (λ _. check_refusal P ≡ None) (λ e. IsAnswer P (Err e)) }
-{
-    match ill_defined(alloc, reached, table)? {
-        Some(found) => Err(definition_error(alloc, reached, table, found)?),
-        None => Ok(()),
-    }
-}
-
 /// The clocks of the terms of a program that keeps the rules of types; or the first of the rules of
 /// clocks (E10) and definitions (E11) that it breaks, each over all instances.
 fn judged_clocks(
     alloc: Global,
     reached: &Reached,
     table: &Table,
-) -> Result<Vec<NodeClocks>, CheckError>
+) -> Result<Result<Vec<NodeClocks>, Broken>, AllocError>
     ensures answer { (P : Program) → IsJudged P reached.now table.now
-        → list_all (is_typed P) (instances P) ≡ true
-        → MatchResult result (λ _. check_refusal P ≡ None) (λ e. IsAnswer P (Err e)) }
-    ensures clocks { IfOk result (λ clocks. map found_in clocks.items
+        → list_all (is_typed P) (instances P) ≡ true → IfOk result (λ judged.
+        MatchResult judged (λ _. check_refusal P ≡ None) (IsFirstBroken P reached.now)) }
+    ensures clocks { IfOk result (λ judged. IfOk judged (λ clocks. map found_in clocks.items
         ≡ map (λ n. with_terms nothing_found (node_terms reached.now n))
-        reached.now.nodes.items) }
+        reached.now.nodes.items)) }
 {
     let program = program_clocks(alloc, reached, table)?;
     if let Some(found) = program.broken {
-        return Err(clock_error(alloc, reached, table, found)?);
+        return Ok(Err(Broken::Clocks(found)));
     }
-    judge_definitions(alloc, reached, table)?;
-    Ok(program.clocks)
+    match ill_defined(alloc, reached, table)? {
+        Some(found) => Ok(Err(Broken::Definitions(found))),
+        None => Ok(Ok(program.clocks)),
+    }
 }
 
 /// The clocks and types of the terms of a program; or the first of the rules of types (E9), clocks
-/// (E10) and definitions (E11) that it breaks, each over all instances, with its fault.
-fn judged_program(alloc: Global, reached: &Reached, table: &Table) -> Result<Found, CheckError>
-    ensures answer { (P : Program) → IsJudged P reached.now table.now
-        → MatchResult result (λ _. check_refusal P ≡ None) (λ e. IsAnswer P (Err e)) }
-    ensures clocks { IfOk result (λ f. map found_in f.clocks.items
+/// (E10) and definitions (E11) that it breaks, each over all instances.
+fn judged_program(
+    alloc: Global,
+    reached: &Reached,
+    table: &Table,
+) -> Result<Result<Found, Broken>, AllocError>
+    ensures answer { (P : Program) → IsJudged P reached.now table.now → IfOk result (λ judged.
+        MatchResult judged (λ _. check_refusal P ≡ None) (IsFirstBroken P reached.now)) }
+    ensures clocks { IfOk result (λ judged. IfOk judged (λ f. map found_in f.clocks.items
         ≡ map (λ n. with_terms nothing_found (node_terms reached.now n))
-        reached.now.nodes.items) }
-    ensures types { IfOk result (λ f. AreFound reached.now table.now f.types) }
+        reached.now.nodes.items)) }
+    ensures types { IfOk result (λ judged.
+        IfOk judged (λ f. AreFound reached.now table.now f.types)) }
 {
     let types = match judged_types(alloc, reached, table)? {
         Ok(types) => types,
-        Err(found) => return Err(type_error(alloc, reached, table, found)?),
+        Err(found) => return Ok(Err(Broken::Types(found))),
     };
-    let clocks = judged_clocks(alloc, reached, table)?;
-    Ok(Found { clocks, types })
+    match judged_clocks(alloc, reached, table)? {
+        Ok(clocks) => Ok(Ok(Found { clocks, types })),
+        Err(broken) => Ok(Err(broken)),
+    }
 }
 
-/// Checks an elaborated program: the first of the rules of types (E9), clocks (E10) and definitions
-/// (E11) that it breaks, each over all instances, with the node and the part of it that breaks it,
-/// and why; or the checked program.
-pub fn check<'s>(alloc: Global, elab: Elab<'s>) -> Result<Checked<'s>, CheckError>
-    ensures answer { IsAnswer (elaborated_program elab.entry) result }
-    ensures same { IfOk result (λ c. c.elab ≡ elab.entry) }
+/// Checks an elaborated program: the checked program; or the first of the rules of types (E9),
+/// clocks (E10) and definitions (E11) that it breaks, each over all instances, with the node and
+/// the part of it that breaks it.
+///
+/// Why the part breaks the rule, `lb_cause` finds: its `check_with_cause` is this check with the
+/// causes.
+pub fn check<'s>(
+    alloc: Global,
+    elab: Elab<'s>,
+) -> Result<Result<Checked<'s>, Refused<'s>>, AllocError>
+    ensures answer { IfOk result (IsCheckAnswer elab.entry) }
+    ensures same { IfOk result (λ answer.
+        MatchResult answer (λ c. c.elab ≡ elab.entry) (λ r. r.elab ≡ elab.entry)) }
     ensures lawful { IsLawful elab.entry }
 {
-    let found = judged_program(alloc, elab.reached(), elab.table())?;
-    Ok(Checked::new(Checking {
-        elab,
-        clocks: found.clocks,
-        types: found.types,
-    }))
+    match judged_program(alloc, elab.reached(), elab.table())? {
+        Ok(found) => Ok(Ok(Checked::new(Checking {
+            elab,
+            clocks: found.clocks,
+            types: found.types,
+        }))),
+        Err(broken) => Ok(Err(Refused { elab, broken })),
+    }
 }

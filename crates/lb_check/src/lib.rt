@@ -3,21 +3,12 @@
 
 mod array_types;
 mod call_clock;
-mod call_reason;
-mod cause;
 mod checked;
 mod checker;
 mod clock;
-mod clock_cause;
-mod clock_fault;
-mod clock_reason;
 mod clock_rules;
 mod clock_set;
-mod compared_types;
-mod definition_cause;
-mod definition_fault;
 mod definition_rules;
-mod error;
 mod found_clocks;
 mod found_types;
 mod given_variables;
@@ -28,15 +19,11 @@ mod own_clock;
 mod part;
 mod part_types;
 mod placed_clock;
+mod refused;
 mod shared;
 mod signature;
-mod sites;
 mod term_clock;
-mod told_types;
-mod type_cause;
 mod type_env;
-mod type_fault;
-mod type_reason;
 mod type_rules;
 mod types;
 mod used_nodes;
@@ -45,12 +32,27 @@ mod walked_clocks;
 
 pub use checked::Checked;
 pub use checker::check;
-pub use clock_fault::{ClockFault, ClockRule, ClockSign, SourceClock};
-pub use definition_fault::{DefinitionFault, DefinitionRule};
-pub use error::CheckError;
 pub use found_clocks::{CallClock, GivenVariable};
 pub use found_types::{NodeTypes, TermType};
 pub use own_clock::{Clock, declared_clock};
-pub use part::Part;
-pub use type_fault::{SourceType, TypeFault, TypeRule};
+pub use part::{IllFormed, Part};
+pub use refused::{Broken, Refused};
 pub use verdict::Verdict;
+
+// The types of the parts of a term, for `lb_cause`.
+pub use array_types::array_of;
+pub use judged_types::IllTyped;
+pub use operand_types::{common_type, when_truth};
+pub use part_types::PartTypes;
+pub use signature::{TypeRow, only_given, signature_of};
+pub use type_env::TypeEnv;
+pub use types::{SideTypes, given_where, has_arity, leaf_type, one_type, side_types, two_types};
+
+// The clocks of the parts of a term, and the definitions of a node, for `lb_cause`.
+pub use call_clock::{
+    Given, base_clock, expected, inputs_of, is_base_clocked, is_given, left_operands, outputs_of,
+    parameters, result_base, variable_of,
+};
+pub use clock_set::{ClockSet, Operand};
+pub use definition_rules::calls_function;
+pub use term_clock::{ClockEnv, row_clock_set, unary_clock_set};

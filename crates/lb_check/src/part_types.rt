@@ -63,7 +63,9 @@ impl PartTypes {
     }
 
     /// Parts of which none is kept.
-    pub fn none(alloc: Global) -> PartTypes {
+    pub fn none(alloc: Global) -> PartTypes
+        ensures { placed_mirror.kept_in result ≡ record { left = 0; found = [] } }
+    {
         PartTypes {
             left: 0,
             found: Vec::new(alloc),

@@ -25,7 +25,7 @@ use lb_syntax::Kind;
 use std::alloc::{AllocError, Global};
 
 /// The type of a term without operands.
-fn leaf_type(alloc: Global, env: &TypeEnv, term: &Term) -> Result<Option<DataType>, AllocError>
+pub fn leaf_type(alloc: Global, env: &TypeEnv, term: &Term) -> Result<Option<DataType>, AllocError>
     ensures { IfOk result (λ o.
         option_map view_type o ≡ mirror.leaf_type (context_in env.now) term.now) }
 {
@@ -365,14 +365,6 @@ pub fn walk(
         | Term::IterateNode(_, _, terms)
         | Term::IterateSymbol(_, _, _, terms) => walk_given(alloc, env, terms, term, parts),
     }
-}
-
-/// The one type of a term, or none where a rule of types is broken.
-pub fn type_of(alloc: Global, env: &TypeEnv, term: &Term) -> Result<Option<DataType>, AllocError>
-    ensures { IfOk result (λ o.
-        option_map view_type o ≡ mirror.type_of (context_in env.now) term.now) }
-{
-    walk(alloc, env, term, &mut PartTypes::none(alloc))
 }
 
 /// The types of the results of a right side.

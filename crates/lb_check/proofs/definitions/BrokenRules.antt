@@ -1,10 +1,10 @@
 -- The first rule that a program breaks, and the node that breaks it.
 use Rattle.lb_check.proofs.Words
 use Words.{Bool, E10, E9, Elaboration, Global, IfOk, IfSome, In, Instance, IsJudged, IsLawful, List}
-use Words.{Name, Node, NodeId, NodeTypes, None, Option, Part, Path, Program, Reached, Result, Some}
+use Words.{Node, NodeId, NodeTypes, None, Option, Part, Path, Program, Reached, Result, Some}
 use Words.{Specialization, Table, Vec, [], ap, arith, check_refusal, cond, elaborated_program}
 use Words.{false, find, holds, instances, instantiation_refusal, is_clocked, is_defined}
-use Words.{is_part_typed, is_some, is_specialization_typed, is_typed, keeps_names, list_all, listed}
+use Words.{is_part_typed, is_some, is_specialization_typed, is_typed, keeps_names, list_all}
 use Words.{map, not, not-false, not-true, option_map, or_else, refl, slice_get, slice_get-map}
 use Words.{specialized_at, static_refusal, subst, suc, sym, tree_at, true, unless, zero, ℕ, ◌<◌}
 use Words.{◌∙◌, ◌∷◌, ◌≡◌}
@@ -12,7 +12,7 @@ use Rattle.lb_check.proofs.lists.ListPairs.{all_pass, not_all_pass}
 use Rattle.lb_check.proofs.typing.Specializations.{has_instance}
 use Rattle.lb_check.proofs.typing.TypedSpecializations.{instances_typed, specialization_part}
 use Rattle.lb_check.proofs.typing.TypedSpecializations.{specialization_typed}
-use Rattle.lb_check.specs.{BrokenRules.{IsBroken, IsBrokenIn}, FoundParts.AreJudgedTypes}
+use Rattle.lb_check.specs.{BrokenRules.IsBroken, FoundParts.AreJudgedTypes}
 use Rattle.lb_check.specs.{FoundParts.IsIllTypedAt, PlacedTypes.AreFound}
 use Rattle.lb_check.specs.declared.{judged_types.IllTyped.IllTyped, part.IllFormed.IllFormed}
 use Rattle.lb_static.specs.{Elaborated.IsElaborated, Instantiation.has_no_parameters}
@@ -177,18 +177,6 @@ module _ (P : Program) (r : Reached) where
   tree_is : (p : Path) (s : Specialization) (here : Instance) → specialized_at r p s ≡ Some here →
       tree_at r s.node ≡ Some here.node
   tree_is p s here e = grind arith
-
-  -- a rule that is broken in the node at a place is broken in the node with its name
-  pub broken_in : (rule : Instance → Bool) (part_rule : Instance → Part → Bool) (id : NodeId)
-      (p q : Part) (x : Name) → IsBroken rule part_rule P r id p
-      → x ≡ listed (λ n. n.name) (tree_at r id) → q ≡ p → IsBrokenIn rule part_rule P x q
-  broken_in rule part_rule id p q x b e same = (
-    b.0,
-    b.1,
-    sym (e ∙ ap (listed (λ n. n.name)) b.2),
-    b.3,
-    ap (part_rule b.0) same ∙ b.4,
-  )
 
   module _ (t : Table) (j : IsJudged P r t) where
     abbrev ss : List Specialization
