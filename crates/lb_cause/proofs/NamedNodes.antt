@@ -1,7 +1,9 @@
 -- A node that breaks a rule, by its name.
-use Rattle.lb_check.proofs.Words.{Bool, Instance, Name, NodeId, Part, Program, Reached, ap, listed}
-use Rattle.lb_check.proofs.Words.{sym, tree_at, ◌∙◌, ◌≡◌}
-use Rattle.{lb_check.specs.BrokenRules.IsBroken, lb_cause.specs.Correct.IsBrokenIn}
+use Rattle.std.specs.Prelude.{Bool}
+use Rattle.lb_check.proofs.Words.{Instance, Name, NodeId, Program, Reached, ap, listed, sym}
+use Rattle.lb_check.proofs.Words.{tree_at, ◌∙◌, ◌≡◌}
+use Rattle.lb_check.specs.{BrokenRules.IsBroken, declared.part.Part.Part}
+use Rattle.lb_cause.specs.Correct.{IsBrokenIn}
 
 -- a rule that is broken in the node at a place is broken in the node with its name
 pub broken_in : (P : Program) (r : Reached) (rule : Instance → Bool)
