@@ -10,7 +10,7 @@ crates=$(cd "$here/../../crates" && pwd)
 
 workspace "lb_syntax: thiserror
 lb_static: lb_syntax indexmap thiserror
-lb_check: lb_static lb_syntax thiserror
+lb_check: lb_static lb_syntax
 judge_bench: lb_check lb_static lb_syntax" \
     "$crates/lb_syntax" "$crates/lb_static" "$crates/lb_check" "$here/judge_bench"
 

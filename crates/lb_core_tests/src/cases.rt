@@ -1,7 +1,8 @@
 //! Cases: a source and its traces in one text, parted by the line `%traces`.
 
 use crate::texts::{Said, around, named};
-use lb_check::{Checked, check};
+use lb_cause::check_with_cause;
+use lb_check::Checked;
 use lb_expand::expand;
 use lb_flat::{Ordered, order};
 use lb_static::elaborate;
@@ -32,7 +33,7 @@ pub fn push_case(case: &mut Said, short: &str) {
 /// The program of a tree that keeps all rules, with `main` under test and perhaps an observer.
 pub fn checked_of<'t>(alloc: Global, tree: &'t Source, observer: &'t str) -> Option<Checked<'t>> {
     let elab = elaborate(alloc, tree, "main", named(observer)).ok()?;
-    check(alloc, elab).ok()
+    check_with_cause(alloc, elab).ok()
 }
 
 /// The equations of a case and its traces, if its texts are accepted. An empty name is no observer.

@@ -6,10 +6,11 @@
 //! fault, and in brackets that of a sign.
 
 use crate::texts::{Said, around, last_line, named};
-use lb_check::{
-    CheckError, Checked, ClockFault, DefinitionFault, Part, SourceClock, SourceType, TypeFault,
-    TypeRule, check,
+use lb_cause::{
+    CheckError, ClockFault, DefinitionFault, SourceClock, SourceType, TypeFault, TypeRule,
+    check_with_cause,
 };
+use lb_check::{Checked, Part};
 use lb_static::{CallPath, CallStep, Start, elaborate};
 use lb_syntax::{Source, line_column, parse};
 use std::alloc::Global;
@@ -341,7 +342,7 @@ fn push_cause(
     let Ok(elab) = elaborate(alloc, tree, node, named(observer)) else {
         return said.push_str("no program");
     };
-    push_checked(text, &check(alloc, elab), said);
+    push_checked(text, &check_with_cause(alloc, elab), said);
 }
 
 /// The answer on a source. The last line is no part of the source.

@@ -2,7 +2,7 @@
 
 use crate::declared::node_named;
 use crate::lexeme::{Lexeme, Sort, token_at};
-use lb_check::SourceClock;
+use lb_cause::SourceClock;
 
 /// A `when` and the variable behind it; `sign` is false for `when not`.
 #[derive(Clone, Copy)]

@@ -10,7 +10,7 @@ use crate::marking::{put_marked, word_of};
 use crate::page::Page;
 use crate::paths::put_path;
 use crate::texts::spot;
-use lb_check::{ClockFault, ClockRule, SourceClock};
+use lb_cause::{ClockFault, ClockRule, SourceClock};
 use lb_places::Text;
 use std::alloc::{AllocError, Global};
 

@@ -4,7 +4,7 @@ use crate::excerpt::put_bytes;
 use crate::marking::{put_marked, put_note, word_of};
 use crate::page::Page;
 use crate::paths::put_path;
-use lb_check::{DefinitionFault, DefinitionRule};
+use lb_cause::{DefinitionFault, DefinitionRule};
 use lb_places::Text;
 
 /// The most definitions that are shown.

@@ -10,7 +10,7 @@ use crate::page::Page;
 use crate::roots::explain_root;
 use crate::types::explain_type;
 use crate::values::{explain_range, explain_value};
-use lb_check::CheckError;
+use lb_cause::CheckError;
 use lb_expand::FlatError;
 use lb_flat::OrderError;
 use lb_places::Text;

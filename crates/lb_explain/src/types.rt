@@ -6,7 +6,7 @@ use crate::lexeme::{Sort, last_before, piece_at, token_at};
 use crate::marking::{put_marked, token_of, word_of};
 use crate::page::Page;
 use crate::paths::put_path;
-use lb_check::{SourceType, TypeFault, TypeRule};
+use lb_cause::{SourceType, TypeFault, TypeRule};
 use lb_places::Text;
 use lb_syntax::Kind;
 

@@ -5,7 +5,7 @@ ghost use Rattle.lb_places.specs.FirstPlaces as spec;
 
 use crate::texts::Text;
 use itoa::Buffer;
-use lb_check::CheckError;
+use lb_cause::CheckError;
 use lb_flat::OrderError;
 use lb_refusal::BenchError;
 use lb_static::StaticError;

@@ -5,8 +5,8 @@ use Rattle.lb_syntax.specs.declared.error.SyntaxError.{SyntaxError}
 use Rattle.lb_syntax.specs.declared.error.SyntaxError.TheVariants as syntax
 use Rattle.lb_static.specs.declared.error.StaticError.{StaticError}
 use Rattle.lb_static.specs.declared.error.StaticError.TheVariants as static
-use Rattle.lb_check.specs.declared.error.CheckError.{CheckError}
-use Rattle.lb_check.specs.declared.error.CheckError.TheVariants as check
+use Rattle.lb_cause.specs.declared.error.CheckError.{CheckError}
+use Rattle.lb_cause.specs.declared.error.CheckError.TheVariants as check
 use Rattle.lb_expand.specs.declared.error.FlatError.{FlatError}
 use Rattle.lb_expand.specs.declared.error.FlatError.TheVariants as flat
 use Rattle.lb_flat.specs.declared.error.OrderError.{OrderError}

@@ -4,7 +4,7 @@ ghost use Rattle.std.specs.Prelude.{◌≡◌, ◌<◌};
 ghost use Rattle.lb_refusal.specs.Refusals as spec;
 
 use crate::refusal::word;
-use lb_check::CheckError;
+use lb_cause::CheckError;
 use lb_expand::FlatError;
 use lb_flat::OrderError;
 use lb_static::StaticError;

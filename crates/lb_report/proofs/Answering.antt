@@ -16,10 +16,10 @@ use Rattle.lb_static.specs.Instantiation.{static_refusal}
 use Rattle.lb_static.specs.declared.error.StaticError.{StaticError}
 use Rattle.lb_static.specs.declared.error.StaticError.TheVariants as static
 use Rattle.lb_check.specs.Acceptance.{check_refusal, refusal, IsFirst}
-use Rattle.lb_check.specs.Correct.{IsAnswer}
+use Rattle.lb_cause.specs.Correct.{IsAnswer}
 use Rattle.lb_check.specs.TypeRules.{is_small}
-use Rattle.lb_check.specs.declared.error.CheckError.{CheckError}
-use Rattle.lb_check.specs.declared.error.CheckError.TheVariants as check
+use Rattle.lb_cause.specs.declared.error.CheckError.{CheckError}
+use Rattle.lb_cause.specs.declared.error.CheckError.TheVariants as check
 use Rattle.lb_expand.specs.declared.error.FlatError.TheVariants as flat
 use Rattle.lb_flat.specs.declared.error.OrderError.{OrderError}
 use Rattle.lb_flat.specs.declared.error.OrderError.TheVariants as order

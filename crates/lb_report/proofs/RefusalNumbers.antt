@@ -2,7 +2,7 @@
 use Rattle.std.proofs.Common.{◌<◌, arith}
 use Rattle.lb_syntax.specs.declared.error.SyntaxError.TheVariants as syntax
 use Rattle.lb_static.specs.declared.error.StaticError.TheVariants as static
-use Rattle.lb_check.specs.declared.error.CheckError.TheVariants as check
+use Rattle.lb_cause.specs.declared.error.CheckError.TheVariants as check
 use Rattle.lb_expand.specs.declared.error.FlatError.TheVariants as flat
 use Rattle.lb_flat.specs.declared.error.OrderError.TheVariants as order
 use Rattle.lb_trace.specs.declared.error.TraceError.TheVariants as trace

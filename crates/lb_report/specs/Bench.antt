@@ -12,7 +12,7 @@ use Rattle.lb_static.specs.Instances.{Program}
 use Rattle.lb_static.specs.DataTypes.{signature}
 use Rattle.lb_static.specs.Instantiation.{static_refusal}
 use Rattle.lb_check.specs.Acceptance.{refusal, IsAccepted, IsFirst}
-use Rattle.lb_check.specs.Correct.{IsAnswer}
+use Rattle.lb_cause.specs.Correct.{IsAnswer}
 use Rattle.lb_check.specs.Solutions.{HasOneHistory}
 use Rattle.lb_check.specs.Verdicts.{IsOnlyVerdict}
 use Rattle.lb_check.specs.declared.verdict.Verdict.{Verdict}

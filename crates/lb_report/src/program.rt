@@ -7,7 +7,8 @@ ghost use Rattle.lb_syntax.specs.Tokens.{Text};
 ghost use Rattle.lb_report.specs.AcceptedPrograms.{IsProgram};
 ghost use Rattle.lb_report.specs.Bench.{IsRefused, program_of};
 
-use lb_check::{Checked, check};
+use lb_cause::check_with_cause;
+use lb_check::Checked;
 use lb_expand::{expand, with_places};
 use lb_flat::{Ordered, order};
 use lb_refusal::{BenchError, Options};
@@ -36,7 +37,7 @@ impl<'s> Program<'s> {
             IfErr result (IsRefused source traces options.now) }
     {
         let elab = elaborate(alloc, tree, options.node.as_str(), options.observer_name())?;
-        let checked = check(alloc, elab)?;
+        let checked = check_with_cause(alloc, elab)?;
         let flat = expand(alloc, &checked)?;
         match order(alloc, flat) {
             Ok(ordered) => {

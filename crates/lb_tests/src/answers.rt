@@ -3,7 +3,7 @@
 ghost use Rattle.std.specs.Prelude.{◌<◌, IfOk};
 
 use crate::rounds;
-use lb_check::CheckError;
+use lb_cause::CheckError;
 use lb_core_tests::texts::{Said, around, first_line, push_unlike};
 use lb_report::{BenchError, Options, Report, run_case};
 use std::alloc::{AllocError, Global};

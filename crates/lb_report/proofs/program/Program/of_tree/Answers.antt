@@ -7,7 +7,7 @@ use Rattle.lb_static.specs.Correct.{Elaborates}
 use Rattle.lb_static.specs.Instances.{Program}
 use Rattle.lb_static.specs.Instantiation.{static_refusal}
 use Rattle.lb_check.specs.Acceptance.{check_refusal}
-use Rattle.lb_check.specs.Correct.{IsAnswer}
+use Rattle.lb_cause.specs.Correct.{IsAnswer}
 use Rattle.lb_expand.specs.Correct.{IsExpansionAnswer}
 use Rattle.lb_flat.specs.Programs as flat
 use Rattle.lb_report.specs.Bench.{program_of}
