@@ -4,8 +4,8 @@ use Rattle.std.proofs.Common.{refl, sym, ap, ap₂, ◌∙◌}
 use Rattle.std.proofs.lemmas.List.{map-append, take_more}
 use Rattle.lb_check.specs.Scalars.{Cell as Held}
 use Rattle.lb_flat.specs.Run.{Row, cell}
-use Rattle.lb_history.specs.Cells.{cell_of}
-use Rattle.lb_history.specs.declared.cell.Cell.{Cell}
+use Rattle.lb_flat.specs.Values.{cell_of}
+use Rattle.lb_flat.specs.declared.cell.Cell.{Cell}
 use Rattle.lb_csv.specs.CsvTexts.{cells_in}
 use Rattle.lb_csv.specs.Shown.{numbers_of}
 use Rattle.lb_csv.specs.declared.column.Column.{Column}

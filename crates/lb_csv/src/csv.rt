@@ -9,7 +9,7 @@
 //! An absent cell is empty, a nil cell is `?`, and the value of a fault is `!`.
 
 ghost use Rattle.std.specs.Prelude.{◌≡◌, ◌++◌, map, OnOk};
-ghost use Rattle.lb_history.specs.Cells.{cell_of};
+ghost use Rattle.lb_flat.specs.Values.{cell_of};
 ghost use Rattle.lb_csv.specs.CsvTexts.{cell_field, field, header, record_text};
 ghost use Rattle.lb_csv.specs.Shown.{names_of};
 

@@ -24,7 +24,7 @@ impl<'a> Player<'a> {
     ghost use Rattle.std.specs.Prelude.{◌≡◌, ◌+◌, ◌<◌, ℕ, suc, map, nat_lt, IfOk, OnOk};
     ghost use Rattle.lb_flat.specs.Inputs.{inputs_of};
     ghost use Rattle.lb_flat.specs.Programs.{program_of};
-    ghost use Rattle.lb_history.specs.Cells.{cell_of};
+    ghost use Rattle.lb_flat.specs.Values.{cell_of};
     ghost use Rattle.lb_history.specs.Replaying.{row_at};
     ghost use Rattle.lb_csv.specs.CsvTexts.{cells_in};
     ghost use Rattle.lb_csv.specs.Players.{program_played, inputs_played, next_played};

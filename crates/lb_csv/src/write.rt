@@ -2,7 +2,7 @@
 
 ghost use Rattle.std.specs.Prelude.{◌≡◌, ◌++◌, decimal, OnOk};
 ghost use Rattle.std.specs.Fmt.{signed_decimal};
-ghost use Rattle.lb_history.specs.Cells.{cell_of};
+ghost use Rattle.lb_flat.specs.Values.{cell_of};
 ghost use Rattle.lb_csv.specs.CsvTexts.{cell_text};
 
 use itoa::Buffer;

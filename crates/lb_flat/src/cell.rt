@@ -74,7 +74,7 @@ fn two_integers(op: BinaryOperator, a: i32, b: i32) -> Cell
 }
 
 /// The result of an operator on two Booleans; none where it is not one on Booleans.
-pub fn two_booleans(op: BinaryOperator, a: bool, b: bool) -> Option<bool>
+pub(crate) fn two_booleans(op: BinaryOperator, a: bool, b: bool) -> Option<bool>
     ensures truth { IfSome result (λ c. two_booleans op a b ≡ Boolean c) }
     ensures none { IfNone result (two_booleans op a b ≡ Bad) }
 {

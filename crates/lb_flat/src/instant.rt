@@ -48,8 +48,9 @@ fn is_now(clocks: &[Clock], row: &[Cell], clock: Option<ClockId>) -> bool
 
 // ## One instant
 
-// The cell that an equation gives, from the computed cells that it reads. Inputs are read before.
-fn now(clocks: &[Clock], row: &[Cell], q: &Equation) -> Cell
+/// The cell that an equation gives at an instant, from a row in which the cells that it reads are
+/// computed. An input gives nothing here: it is read by itself.
+pub fn now(clocks: &[Clock], row: &[Cell], q: &Equation) -> Cell
     requires table { AreClocks (length row.now) clocks.now }
     requires within { IsWithin (length row.now) clocks.now q.now }
     ensures { cell_of result
@@ -111,8 +112,8 @@ pub(crate) fn compute(row: &mut [Cell], clocks: &[Clock], steps: &[Equation])
 
 // ## Memories
 
-// Updates the memory of an operation, after an instant with the row `row`.
-fn remember(row: &[Cell], operation: &mut Operation)
+/// Updates the memory of an operation, after an instant with the row `row`.
+pub fn remember(row: &[Cell], operation: &mut Operation)
     requires operands { All (λ i. i < length row.now) (reads (operation_of operation.old)) }
     requires memory_operands { All (λ i. i < length row.now) (keeps (operation_of operation.old)) }
     ensures { operation_of operation.new

@@ -18,13 +18,14 @@ mod scheduling;
 mod scratch;
 mod trace_run;
 
-pub use cell::two_booleans;
+pub use cell::Cell;
 pub use equation::{Clock, ClockId, ElementId, Equation, InputId, Operation};
 pub use error::{Cycle, CyclePlace, OrderError};
 pub use flat::{Flat, Ordered};
+pub use instant::{now, remember};
 pub use laws::histories_are_those_of_streams;
 pub use program::FlatProgram;
-pub use recorded::kinds_of;
+pub use recorded::{input_at, kinds_of};
 pub use scalar::Scalar;
 pub use scheduling::order;
 pub use trace_run::eval_trace;

@@ -16,8 +16,9 @@ use lb_syntax::Kind;
 use lb_traces::TraceSet;
 use std::alloc::{AllocError, Global};
 
-// The input of an instant of a trace at a place of the signature.
-fn input_at(set: &TraceSet, kinds: &[Kind], k: u32, t: u32, input: InputId) -> Cell
+/// The cell of an input at an instant of a trace. It is absent where the input is past the end of
+/// the signature. `kinds` are the kinds of the columns.
+pub fn input_at(set: &TraceSet, kinds: &[Kind], k: u32, t: u32, input: InputId) -> Cell
     requires kinds { kinds.now ≡ kinds_of set.now.signature }
     requires trace { k < length set.now.traces }
     requires instant { t < length (trace_at set.now.traces k).1 }

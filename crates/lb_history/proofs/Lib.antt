@@ -1,3 +1,3 @@
-pub mod Filling
+pub mod Committing
 pub mod Runs
 pub mod Replays

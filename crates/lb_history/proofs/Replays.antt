@@ -4,6 +4,7 @@ use Rattle.std.proofs.Common.{All, get_or, slice_get, replicate, true, false, re
 use Rattle.std.proofs.Common.{arith, add-one, subst}
 use Rattle.std.proofs.lemmas.List.{length-map, get_or-map, get_or_past}
 use Rattle.lb_check.specs.Solutions.{Inputs}
+use Rattle.lb_flat.specs.declared.cell.Cell.{Cell}
 use Rattle.lb_flat.specs.declared.equation.Clock.{Clock}
 use Rattle.lb_flat.specs.declared.equation.Equation.{Equation}
 use Rattle.lb_flat.specs.declared.program.FlatProgram.{FlatProgram}
@@ -11,12 +12,11 @@ use Rattle.lb_flat.specs.Flat.{FlatEquation}
 use Rattle.lb_flat.specs.InOrder.{is_in_order}
 use Rattle.lb_flat.specs.Programs.{flat_equations, program_of}
 use Rattle.lb_flat.specs.Run.{cell, advanced, filled, Ready}
+use Rattle.lb_flat.specs.Values.{cell_of}
 use Rattle.lb_flat.specs.Within.{IsWithin}
 use Rattle.lb_flat.proofs.{ordering.Ordering.ready_of, runs.Running.filled_is}
-use Rattle.lb_history.specs.Cells.{cell_of}
 use Rattle.lb_history.specs.Replaying.{equations_before, row_at}
 use Rattle.lb_history.specs.Replays.{IsReplayed}
-use Rattle.lb_history.specs.declared.cell.Cell.{Cell}
 use Rattle.lb_history.proofs.Runs.{ready_before}
 
 module _ (p : FlatProgram) (X : Inputs)

@@ -1,4 +1,3 @@
-pub mod Cells
 pub mod Replaying
 pub mod Histories
 pub mod Replays

@@ -5,14 +5,14 @@ use Rattle.std.specs.Prelude.{◌≡◌, ℕ, suc, List, length, map, All}
 use Rattle.std.specs.Coded.{×_prop, Unit-prop}
 use Rattle.std.proofs.Props.{props}
 use Rattle.lb_check.specs.Solutions.{Inputs}
+use Rattle.lb_flat.specs.declared.cell.Cell.{Cell}
 use Rattle.lb_flat.specs.declared.equation.Equation.{Equation}
 use Rattle.lb_flat.specs.declared.program.FlatProgram.{FlatProgram}
 use Rattle.lb_flat.specs.Flat.{FlatClock-set}
 use Rattle.lb_flat.specs.Programs.{flat_equations, program_of}
+use Rattle.lb_flat.specs.Values.{cell_of}
 use Rattle.lb_flat.specs.Within.{IsWithin}
-use Rattle.lb_history.specs.Cells.{cell_of}
 use Rattle.lb_history.specs.Replaying.{equations_before, row_at}
-use Rattle.lb_history.specs.declared.cell.Cell.{Cell}
 
 -- the state before instant t: the equations have the memories that the earlier instants left, and
 -- the row is that of the instant before, if there was one

@@ -2,11 +2,10 @@
 //! the program on it.
 #![tactic(auto)]
 
-mod cell;
 mod instant;
 mod laws;
 mod replay;
 
-pub use cell::Cell;
 pub use laws::rows_are_those_of_histories;
+pub use lb_flat::Cell;
 pub use replay::Replay;

@@ -8,10 +8,8 @@ ghost use Rattle.lb_flat.specs.Programs.{flat_equations, IsInRange};
 ghost use Rattle.lb_traces.specs.Traces.{trace_at};
 ghost use Rattle.lb_history.specs.Replays.{IsReplayed, replayed_props};
 
-use crate::cell::Cell;
 use crate::instant::{Instant, commit, compute};
-use lb_flat::{ElementId, Equation, FlatProgram, Ordered};
-use lb_static::Signature;
+use lb_flat::{Cell, ElementId, Equation, FlatProgram, Ordered, kinds_of};
 use lb_syntax::Kind;
 use lb_traces::TraceSet;
 use std::alloc::{AllocError, Global};
@@ -67,21 +65,10 @@ impl Drop for Replay<'_> {
     }
 }
 
-/// The kind of each column of a signature.
-fn kinds_of(alloc: Global, signature: &Signature) -> Result<Vec<Kind>, AllocError>
-    ensures { IfOk result (λ kinds. kinds.items ≡ kinds_of signature.now) }
-{
-    let mut kinds = Vec::new(alloc);
-    for i in 0..signature.len() {
-        kinds.push(signature.kind(i))?;
-    }
-    Ok(kinds)
-}
-
 impl<'a> Replay<'a> {
     ghost use Rattle.std.specs.Prelude.{ℕ, suc, ◌+◌};
     ghost use Rattle.lb_flat.specs.Programs.{program_of};
-    ghost use Rattle.lb_history.specs.Cells.{cell_of};
+    ghost use Rattle.lb_flat.specs.Values.{cell_of};
     ghost use Rattle.lb_history.specs.Histories.{IsHistoryCell};
     ghost use Rattle.lb_flat.specs.Run.{cell};
     ghost use Rattle.lb_history.specs.ReplayParts.{program_in, recording_in, trace_in, next_in};

@@ -135,9 +135,8 @@ pub record IsCommitting (clocks : List Clock) (row : List Cell) (steps first : L
       all_moved (map cell_of row) (drop i places) (map (equation_of clocks) steps)
       ≡ all_moved (map cell_of row) places (map (equation_of clocks) first)
 
-module _ (clocks : List Clock) (row : List Cell) (steps first : List Equation) (places : List ℕ)
-    (i n : ℕ) (d : Equation) (o : Operation) (lt : i < length places) (at : n ≡ get_or places i 0)
-    (there : n < length steps)
+module _ (clocks : List Clock) (row : List Cell) (steps : List Equation) (n : ℕ) (d : Equation)
+    (o : Operation) (there : n < length steps)
     (is_o : operation_of o
     ≡ remembered (map cell_of row) (operation_of (get_or steps n d).operation)) where
   -- the equation with its memory moved on
@@ -159,9 +158,10 @@ module _ (clocks : List Clock) (row : List Cell) (steps first : List Equation) (
       }) w
 
   pub commit_step :
-      IsCommitting clocks row steps first places i →
+      (first : List Equation) (places : List ℕ) (i : ℕ) → i < length places →
+      n ≡ get_or places i 0 → IsCommitting clocks row steps first places i →
       IsCommitting clocks row (set steps n moved_on) first places (i + 1)
-  commit_step h = record {
+  commit_step first places i lt at h = record {
     rest =
         ap (all_moved (map cell_of row) (drop (i + 1) places))
         (moved_is (map cell_of row) (equation_of clocks) steps n d moved_on there

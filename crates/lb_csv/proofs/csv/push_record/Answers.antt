@@ -1,6 +1,6 @@
 use Rattle.std.proofs.Common.{◌∙◌, ◌++◌, codes, decimal, refl, ap, sym}
-use Rattle.lb_history.specs.Cells.{cell_of}
-use Rattle.lb_history.specs.declared.cell.Cell.{Cell}
+use Rattle.lb_flat.specs.Values.{cell_of}
+use Rattle.lb_flat.specs.declared.cell.Cell.{Cell}
 use Rattle.lb_csv.specs.CsvTexts.{cell_field}
 use Rattle.lb_csv.proofs.Texts.{part_added, flat_map-map, loop_step, loop_end}
 use Rattle.lb_csv.proofs.csv.push_record.Goals as goal

@@ -1,5 +1,5 @@
 use Rattle.std.proofs.Common.{◌≡◌, ◌++◌, codes, drop, flat_map, map}
-use Rattle.lb_history.specs.Cells.{cell_of}
+use Rattle.lb_flat.specs.Values.{cell_of}
 use Rattle.lb_csv.specs.CsvTexts.{cell_field, record_text}
 use Rattle.lb_csv.proofs.csv.push_record.Given as goal
 

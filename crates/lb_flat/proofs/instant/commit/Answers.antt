@@ -19,11 +19,11 @@ loop-i-preserved c =
       there = λ k d lt.
           subst (λ n. get_or places k d < n) (sym (length-set c.loop-i.steps _ _)) (h.there k d lt);
       within =
-          within_step c.args.clocks.now c.args.row.now c.loop-i.steps first places c.loop-i.i _ _ _
-          c.loop-i-test.true refl there c.remember.ensures _ h.within;
+          within_step c.args.clocks.now c.args.row.now c.loop-i.steps _ _ _ there
+          c.remember.ensures _ h.within;
       moved =
-          commit_step c.args.clocks.now c.args.row.now c.loop-i.steps first places c.loop-i.i _ _ _
-          c.loop-i-test.true refl there c.remember.ensures h.moved;
+          commit_step c.args.clocks.now c.args.row.now c.loop-i.steps _ _ _ there
+          c.remember.ensures first places c.loop-i.i c.loop-i-test.true refl h.moved;
     }
 
 pub returns-clause-memories : goal.returns-clause-memories

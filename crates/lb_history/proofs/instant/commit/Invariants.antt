@@ -1,6 +1,6 @@
 use Rattle.std.proofs.Common.{length, All}
 use Rattle.lb_flat.specs.Within.{IsWithin}
-use Rattle.lb_history.proofs.Filling.{IsCommitting}
+use Rattle.lb_history.proofs.Committing.{IsCommitting}
 use Rattle.lb_history.proofs.instant.commit.Given as goal
 
 abbrev pub invariant-loop-i : goal.invariant-loop-i

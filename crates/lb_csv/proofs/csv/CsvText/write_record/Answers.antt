@@ -1,5 +1,5 @@
 use Rattle.std.proofs.Common.{◌∙◌, ◌++◌, ap, ap₂, map, add-one}
-use Rattle.lb_history.specs.Cells.{cell_of}
+use Rattle.lb_flat.specs.Values.{cell_of}
 use Rattle.lb_history.specs.Replaying.{row_at}
 use Rattle.lb_csv.specs.CsvTexts.{record_text, cells_in}
 use Rattle.lb_csv.specs.Players.{program_played, inputs_played, next_played}

@@ -1,5 +1,5 @@
 use Rattle.std.proofs.Common.{◌≡◌, ℕ, suc, map, take}
-use Rattle.lb_history.specs.Cells.{cell_of}
+use Rattle.lb_flat.specs.Values.{cell_of}
 use Rattle.lb_history.specs.Replaying.{row_at}
 use Rattle.lb_csv.specs.CsvTexts.{cells_in}
 use Rattle.lb_csv.specs.Players.{program_played, inputs_played, next_played}

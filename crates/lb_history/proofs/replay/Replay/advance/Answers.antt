@@ -5,7 +5,6 @@ use Rattle.std.specs.Vec.{with_items}
 use Rattle.lb_flat.specs.Inputs.{inputs_of}
 use Rattle.lb_flat.specs.declared.equation.Equation.{Equation}
 use Rattle.lb_history.specs.Replays.{IsReplayed}
-use Rattle.lb_history.specs.declared.cell.Cell.{Cell}
 use Rattle.lb_history.proofs.Replays.{replay_next}
 use Rattle.lb_history.proofs.replay.Replay.advance.Goals as goal
 

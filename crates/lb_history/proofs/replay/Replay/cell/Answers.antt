@@ -4,7 +4,7 @@ use Rattle.std.proofs.lemmas.List.{length-map}
 use Rattle.lb_flat.specs.Inputs.{inputs_of, scalars_in}
 use Rattle.lb_flat.specs.Programs.{program_of}
 use Rattle.lb_traces.specs.Traces.{trace_at}
-use Rattle.lb_history.specs.Cells.{cell_of}
+use Rattle.lb_flat.specs.Values.{cell_of}
 use Rattle.lb_history.proofs.Replays.{program_ready, cell_there, cell_absent}
 use Rattle.lb_history.proofs.Runs.{row_shows}
 use Rattle.lb_history.proofs.replay.Replay.cell.Goals as goal
