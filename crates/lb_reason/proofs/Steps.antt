@@ -16,10 +16,10 @@ use Rattle.lb_flat.specs.Run.{Ready, Row, cell}
 use Rattle.lb_flat.specs.Standing.{HasKindsOf, StandsForProgram}
 use Rattle.lb_traces.specs.Traces.{Recording, trace_at}
 use Rattle.lb_flat.specs.declared.equation.ElementId.{ElementId}
-use Rattle.lb_history.specs.Cells.{cell_of}
+use Rattle.lb_flat.specs.Values.{cell_of}
 use Rattle.lb_history.specs.Histories.{IsHistoryCell}
 use Rattle.lb_history.specs.Replaying.{equations_before, row_at}
-use Rattle.lb_history.specs.declared.cell.Cell.{Cell}
+use Rattle.lb_flat.specs.declared.cell.Cell.{Cell}
 use Rattle.lb_history.proofs.Runs.{row_shows}
 use Rattle.lb_reason.specs.Deciding.{chain, next_element}
 use Rattle.lb_reason.specs.Moments.{inputs_now, program_now, row_now}

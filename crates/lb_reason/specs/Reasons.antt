@@ -12,7 +12,7 @@ use Rattle.lb_flat.specs.Judging.{FlatProgram, named_elements, row_judged, truth
 use Rattle.lb_flat.specs.Run.{Row, cell}
 use Rattle.lb_flat.specs.Standing.{HasKindsOf, StandsForProgram}
 use Rattle.lb_traces.specs.Traces.{Recording}
-use Rattle.lb_history.specs.Cells.{cell_of}
+use Rattle.lb_flat.specs.Values.{cell_of}
 use Rattle.lb_history.specs.Histories.{IsHistoryCell}
 use Rattle.lb_history.specs.Replaying.{equations_before, row_at}
 use Rattle.lb_reason.specs.Deciding.{chain, first_of, is_bad, is_nil, is_false, is_present}

@@ -3,9 +3,8 @@
 ghost use Rattle.std.specs.Prelude.{◌≡◌, List, [], ◌∷◌, Some, option_map, IfOk};
 ghost use Rattle.lb_flat.specs.Programs.{flat_equations, numbers_of};
 ghost use Rattle.lb_flat.specs.Run.{cell};
-ghost use Rattle.lb_flat.specs.Values.{equation_of, operation_of};
+ghost use Rattle.lb_flat.specs.Values.{cell_of, equation_of, operation_of};
 ghost use Rattle.lb_flat.specs.declared.equation.Clock.{Clock};
-ghost use Rattle.lb_history.specs.Cells.{cell_of};
 ghost use Rattle.lb_reason.specs.Deciding as spec;
 ghost use Rattle.lb_reason.specs.Moments.{equations_now, row_now};
 ghost use Rattle.lb_reason.specs.Tests.{number, passes};

@@ -65,7 +65,7 @@ impl Drop for Moment<'_> {
 
 impl<'a> Moment<'a> {
     ghost use Rattle.lb_flat.specs.Run.{cell};
-    ghost use Rattle.lb_history.specs.Cells.{cell_of};
+    ghost use Rattle.lb_flat.specs.Values.{cell_of};
     ghost use Rattle.lb_reason.specs.Moments.{equations_now, inputs_now, program_now, row_now};
 
     /// An instant of a trace.
