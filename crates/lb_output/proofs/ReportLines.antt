@@ -1,9 +1,9 @@
 -- Reports, line by line.
 use Rattle.std.proofs.Common.{◌≡◌, ℕ, ◌+◌, ◌<◌, List, [], ◌∷◌, ◌++◌, length, drop, get_or, flat_map}
-use Rattle.std.proofs.Common.{suc, ap, sym, ◌∙◌, append-nil, append_assoc, add-one, arith}
+use Rattle.std.proofs.Common.{suc, ap, ap₂, map, sym, ◌∙◌, append-nil, append_assoc, add-one, arith}
 use Rattle.std.proofs.Math.Seq.{drop-cons}
 use Rattle.std.proofs.lemmas.Grind.{flat_map-append}
-use Rattle.std.proofs.lemmas.List.{map-id}
+use Rattle.std.proofs.lemmas.List.Folds.{flat_map-map}
 use Rattle.std.proofs.lemmas.List.FromFn.{map-range_with_len_more}
 use Rattle.std.specs.List.{range_with_len}
 use Rattle.lb_check.specs.declared.verdict.Verdict.{Verdict}
@@ -23,19 +23,15 @@ lines-drop names verdicts k n v named judged =
     ∙ ap (λ rest. lines (name ∷ drop (suc k) names) rest) (drop-cons verdicts k v judged)
     ∙ ap (λ j. line name verdict ++ lines (drop j names) (drop j verdicts)) (sym (add-one k))
 
--- the numbers below n + 1 are those below n, and n
-range_more : (n : ℕ) → range_with_len 0 (n + 1) ≡ range_with_len 0 n ++ n ∷ []
-range_more n =
-    sym (map-id (range_with_len 0 (n + 1)))
-    ∙ map-range_with_len_more (λ k. k) 0 n n (omega arith)
-    ∙ ap (λ ks. ks ++ n ∷ []) (map-id (range_with_len 0 n))
-
+-- the pieces of the numbers below n + 1 are those of the numbers below n, and that of n
 pub flat_map-range_more : {A : Type 0} (f : ℕ → List A) (n : ℕ)
     → flat_map f (range_with_len 0 (n + 1)) ≡ flat_map f (range_with_len 0 n) ++ f n
 flat_map-range_more f n =
-    ap (flat_map f) (range_more n)
-    ∙ flat_map-append f (range_with_len 0 n) (n ∷ [])
-    ∙ ap (λ ys. flat_map f (range_with_len 0 n) ++ ys) (append-nil (f n))
+    sym (flat_map-map (λ piece. piece) f (range_with_len 0 (n + 1)))
+    ∙ ap (flat_map (λ piece. piece)) (map-range_with_len_more f 0 n n (omega arith))
+    ∙ flat_map-append (λ piece. piece) (map f (range_with_len 0 n)) (f n ∷ [])
+    ∙ ap₂ (λ xs ys. xs ++ ys) (flat_map-map (λ piece. piece) f (range_with_len 0 n))
+    (append-nil (f n))
 
 -- a text that grew by `piece` makes the same whole with what is then left
 pub whole_after : {A : Type 0} (old new piece rest after whole : List A)
