@@ -1,15 +1,14 @@
 -- The list of a report, and the texts that are reports.
 -- Source: this project's rule.
-use Rattle.std.specs.Prelude.{◌≡◌, ◌≢◌, ℕ, ◌<◌, ◌+◌, ◌^◌, List, [], ◌∷◌, ◌++◌, map, length, get_or}
+use Rattle.std.specs.Prelude.{◌≡◌, ◌≢◌, ℕ, ◌<◌, ◌+◌, ◌^◌, List, ◌∷◌, ◌++◌, map, length}
 use Rattle.std.specs.Prelude.{Option, Some, None, IsSome}
 use Rattle.std.specs.List.{All, AllPairs}
 use Rattle.std.specs.Map.{lookup}
 use Rattle.std.specs.Str.{bytes_eq}
 use Rattle.lb_check.specs.declared.verdict.Verdict.{Verdict}
 use Rattle.lb_traces.specs.Traces.{IsTraceName}
-use Rattle.lb_output.specs.Reports.{instant, instant_of, line, lines, place_of, report_of, total}
-use Rattle.lb_output.specs.Reports.{word}
-use Rattle.lb_output.specs.Reports.{words}
+use Rattle.lb_output.specs.Reports.{instant_of, line, lines, report_of, total}
+pub use Rattle.lb_output.specs.Reports.{said, spaced}
 use Rattle.lb_listing.specs.declared.entry.Entry.{Entry}
 use Rattle.lb_listing.specs.declared.read.ListingError.{ListingError}
 use Rattle.lb_listing.specs.declared.read.ListingError.TheVariants.{Memory, Fault}
@@ -57,13 +56,6 @@ pub record IsListing (listed : List Line) : Type 0 where
 -- the text of a line
 abbrev pub spelled : Line → List ℕ
 spelled l = line l.0 l.1
-
--- the text of a verdict behind a space; and without the space, as `false 21`
-abbrev pub spaced : Verdict → List ℕ
-spaced v = word (place_of v) ++ instant (instant_of v)
-
-abbrev pub said : Verdict → List ℕ
-said v = get_or words (place_of v) [] ++ instant (instant_of v)
 
 -- the text of a line without its end
 abbrev pub body : Line → List ℕ

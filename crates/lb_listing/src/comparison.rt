@@ -9,8 +9,8 @@ ghost use Rattle.lb_listing.specs.Listings as listing;
 use crate::entry::{Entry, is_same};
 use crate::listing::Listing;
 use crate::status::{Measure, fails};
-use crate::text::{push_number, push_verdict};
 use lb_check::Verdict;
+use lb_output::{push_number, push_verdict};
 use std::alloc::{AllocError, Global};
 
 /// The differences between a report and an earlier one.

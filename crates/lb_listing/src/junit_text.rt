@@ -7,9 +7,9 @@ ghost use Rattle.lb_listing.specs.Listings as listing;
 
 use crate::entry::Entry;
 use crate::status::{Measure, fails};
-use crate::text::{push_said, word_of};
 use itoa::{Buffer, Integer};
 use lb_check::Verdict;
+use lb_output::{push_said, word_of};
 use std::alloc::{AllocError, Global};
 
 /// Whether a trace was not judged to its end, since it broke an assumption.

@@ -53,6 +53,13 @@ abbrev pub instant : Option ℕ → List ℕ
 instant (Some t) = number t
 instant None = []
 
+-- the text of a verdict, as `false 21`; and behind a space
+abbrev pub said : Verdict → List ℕ
+said v = get_or words (place_of v) [] ++ instant (instant_of v)
+
+abbrev pub spaced : Verdict → List ℕ
+spaced v = word (place_of v) ++ instant (instant_of v)
+
 -- the line of a trace
 abbrev pub line : List ℕ → Verdict → List ℕ
 line name v = name ++ word (place_of v) ++ instant (instant_of v) ++ codes "\n"

@@ -9,4 +9,7 @@ mod text;
 pub use follow_error::FollowError;
 pub use outgoing::{Outgoing, send_all, send_chunk};
 pub use sink::{Sent, Sink, SinkFailed, Writer, send};
-pub use text::{Report, report_text, status};
+pub use text::{
+    Report, WORDS, place_of, push_line, push_number, push_said, push_verdict, push_word,
+    report_text, status, word_of,
+};

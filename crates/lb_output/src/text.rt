@@ -6,7 +6,7 @@
 //! total 2 passed 1 fault 0 undefined 0 assertion 0 false 1
 //! ```
 
-ghost use Rattle.std.specs.Prelude.{◌≡◌, ◌<◌, ◌≤◌, ◌+◌, ◌++◌, length, IfOk, OnOk};
+ghost use Rattle.std.specs.Prelude.{◌≡◌, ◌<◌, ◌≤◌, ◌+◌, ◌++◌, [], get_or, length, IfOk, OnOk};
 ghost use Rattle.lb_traces.specs.Traces.{trace_names};
 ghost use Rattle.lb_output.specs.Reports as spec;
 
@@ -16,25 +16,25 @@ use lb_traces::TraceSet;
 use std::alloc::{AllocError, Global};
 
 /// The number of words for verdicts.
-const WORDS: usize = 5;
+pub const WORDS: usize = 5;
 
-/// A space and the word at a place, in the order of the last line.
+/// The word at a place, in the order of the last line.
 fn word(place: usize) -> &'static str
     requires { place < WORDS }
-    ensures word { result.now ≡ spec.word place }
-    ensures short { length result.now ≤ 10 }
+    ensures word { result.now ≡ get_or spec.words place [] }
+    ensures short { length result.now ≤ 9 }
 {
     match place {
-        0 => " passed",
-        1 => " fault",
-        2 => " undefined",
-        3 => " assertion",
-        _ => " false",
+        0 => "passed",
+        1 => "fault",
+        2 => "undefined",
+        3 => "assertion",
+        _ => "false",
     }
 }
 
 /// The place of a verdict's word among the words.
-fn place_of(verdict: Verdict) -> usize
+pub fn place_of(verdict: Verdict) -> usize
     ensures value { result ≡ spec.place_of verdict }
     ensures within { result < WORDS }
 {
@@ -45,6 +45,14 @@ fn place_of(verdict: Verdict) -> usize
         Verdict::Assertion(_) => 3,
         Verdict::False(_) => 4,
     }
+}
+
+/// The word for a verdict.
+pub fn word_of(verdict: Verdict) -> &'static str
+    ensures word { result.now ≡ get_or spec.words (spec.place_of verdict) [] }
+    ensures short { length result.now ≤ 9 }
+{
+    word(place_of(verdict))
 }
 
 /// The instant that decided a verdict, if one did.
@@ -58,17 +66,18 @@ fn instant_of(verdict: Verdict) -> Option<u32>
     }
 }
 
-/// Adds a space and a word.
-fn push_word(text: &mut Vec<u8>, place: usize) -> Result<(), AllocError>
+/// Adds a space and the word at a place.
+pub fn push_word(text: &mut Vec<u8>, place: usize) -> Result<(), AllocError>
     requires { place < WORDS }
     ensures text { OnOk result (text.new.items ≡ text.old.items ++ spec.word place) }
     ensures short { OnOk result (length text.new.items ≤ length text.old.items + 10) }
 {
+    text.push(b' ')?;
     text.extend_from_slice(word(place).as_bytes())
 }
 
 /// Adds a space and a number.
-fn push_number(text: &mut Vec<u8>, n: usize) -> Result<(), AllocError>
+pub fn push_number(text: &mut Vec<u8>, n: usize) -> Result<(), AllocError>
     ensures text { OnOk result (text.new.items ≡ text.old.items ++ spec.number n) }
     ensures short { OnOk result (length text.new.items ≤ length text.old.items + 41) }
 {
@@ -76,17 +85,35 @@ fn push_number(text: &mut Vec<u8>, n: usize) -> Result<(), AllocError>
     text.extend_from_slice(Buffer::new().format(n).as_bytes())
 }
 
+/// Adds the text of a verdict, as `false 21`.
+pub fn push_said(text: &mut Vec<u8>, verdict: Verdict) -> Result<(), AllocError>
+    ensures text { OnOk result (text.new.items ≡ text.old.items ++ spec.said verdict) }
+    ensures short { OnOk result (length text.new.items ≤ length text.old.items + 50) }
+{
+    text.extend_from_slice(word_of(verdict).as_bytes())?;
+    match instant_of(verdict) {
+        Some(t) => push_number(text, t as usize),
+        None => Ok(()),
+    }
+}
+
+/// Adds a space and the text of a verdict.
+pub fn push_verdict(text: &mut Vec<u8>, verdict: Verdict) -> Result<(), AllocError>
+    ensures text { OnOk result (text.new.items ≡ text.old.items ++ spec.spaced verdict) }
+    ensures short { OnOk result (length text.new.items ≤ length text.old.items + 51) }
+{
+    text.push(b' ')?;
+    push_said(text, verdict)
+}
+
 /// Adds the line of a trace.
-pub(crate) fn push_line(text: &mut Vec<u8>, name: &str, verdict: Verdict) -> Result<(), AllocError>
+pub fn push_line(text: &mut Vec<u8>, name: &str, verdict: Verdict) -> Result<(), AllocError>
     ensures text { OnOk result (text.new.items ≡ text.old.items ++ spec.line name.now verdict) }
     ensures short { OnOk result (length text.new.items
         ≤ length text.old.items + length name.now + 52) }
 {
     text.extend_from_slice(name.as_bytes())?;
-    push_word(text, place_of(verdict))?;
-    if let Some(t) = instant_of(verdict) {
-        push_number(text, t as usize)?;
-    }
+    push_verdict(text, verdict)?;
     text.push(b'\n')?;
     Ok(())
 }

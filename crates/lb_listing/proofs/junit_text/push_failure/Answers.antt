@@ -19,7 +19,7 @@ returns c =
     let x3 = codes " message=" in
     let e2 : t2 ≡ t1 ++ quoted word =
     c.in_ok-push_quoted.ensures
-    ∙ ap (λ (b : List ℕ). t1 ++ quoted b) (c.as_bytes.ensures.value ∙ c.word_of.ensures) in
+    ∙ ap (λ (b : List ℕ). t1 ++ quoted b) (c.as_bytes.ensures.value ∙ c.word_of.ensures.word) in
     grown t0 t4 t5 (((x1 ++ quoted word) ++ x3) ++ quoted (said v)) (codes "/></testcase>\n")
     (grown t0 t3 t4 ((x1 ++ quoted word) ++ x3) (quoted (said v))
     (grown t0 t2 t3 (x1 ++ quoted word) x3

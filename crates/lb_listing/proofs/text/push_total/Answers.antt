@@ -10,6 +10,6 @@ loop-place-preserved c =
     let front = codes "total" ++ report.number (length c.args.entries.now) in
     let word = c.push_word.new.text.items in
     ends_with_both c.args.text.now.items front _ _ _ _ _ _ _
-    c.loop-place.invariant c.in_ok-push_word.ensures
-    (c.in_ok-push_number-2.ensures ∙ ap (λ n. word ++ report.number n) c.count_of.ensures)
+    c.loop-place.invariant c.in_ok-push_word.ensures.text
+    (c.in_ok-push_number-2.ensures.text ∙ ap (λ n. word ++ report.number n) c.count_of.ensures)
     (flat_map-range_more (report.counted verdicts) c.loop-place.place)
