@@ -51,7 +51,7 @@ impl Sizes {
         Sizes {
             window: if workers == 1 { 1 << 18 } else { 1 << 19 },
             round: match workers {
-                1 => 16 << 20,
+                1 => 18 << 20,
                 2 => 9 << 20,
                 3 => 23 << 18,
                 _ => 19 << 18,

@@ -1,6 +1,6 @@
 //! Cells that are small numbers, read in one pass over their bytes.
 
-ghost use Rattle.std.specs.Prelude.{true, ◌≡◌, ◌<◌, ◌==◌, ◌||◌, if◌then◌else◌, pos, IfSome};
+ghost use Rattle.std.specs.Prelude.{true, ◌≡◌, ◌<◌, ◌==◌, ◌||◌, if◌then◌else◌, pos, IfSome, drop};
 ghost use Rattle.lb_trace.specs.Cells.{signed};
 ghost use Rattle.lb_trace.specs.Plain.{ends_line};
 ghost use Rattle.lb_trace.specs.Fronts.{past_sign};
@@ -168,9 +168,13 @@ fn small_number<'t>(text: &'t [u8]) -> Option<Number<'t>>
     None
 }
 
+/// The value of the first cell, where it is the digit 0 or 1; the text after it begins two bytes
+/// on. An `inner` cell ends in a comma. None says nothing of the text.
 #[inline(always)]
-fn small_bool<'t>(text: &'t [u8], inner: bool) -> Option<Value<'t>>
-    ensures { IfSome result (λ v. BeginsWith Kind.Bool text.now v.value v.rest.now v.is_last) }
+pub(crate) fn small_bool<'t>(text: &'t [u8], inner: bool) -> Option<Value<'t>>
+    ensures begins { IfSome result
+        (λ v. BeginsWith Kind.Bool text.now v.value v.rest.now v.is_last) }
+    ensures rest { IfSome result (λ v. v.rest.now ≡ drop 2 text.now) }
 {
     let [first, end, rest @ ..] = text else {
         return None;

@@ -14,7 +14,7 @@ ghost use Rattle.lb_trace.specs.Numbers.{AreFour, AreIntegers, IsInside, IsLowes
 ghost use Rattle.lb_trace.specs.PlainRows.{BeginsWith, onto, plain_row};
 ghost use Rattle.lb_trace.specs.TruthCells.{GoesOn};
 
-use crate::fast_cells::{cell_end, signed};
+use crate::fast_cells::{cell_end, signed, small_bool};
 use crate::front::{first_eight, value_of};
 use crate::header::Column;
 use crate::scan::ends_line;
@@ -31,7 +31,7 @@ pub(crate) struct FourNumbers<'t> {
 
 /// The value of a cell, the place behind its end, and whether it is the last one of its record.
 #[derive(Clone, Copy)]
-pub(crate) struct NumberAt {
+pub(crate) struct CellAt {
     pub(crate) value: i32,
     pub(crate) end: usize,
     pub(crate) is_last: bool,
@@ -231,7 +231,7 @@ pub(crate) fn others_in(text: &[u8]) -> u64
 // 32 bytes; `stops` has a bit for each of these bytes that is no digit. An `inner` cell ends in a
 // comma. None says nothing of the text.
 #[inline(always)]
-fn number_at(text: &[u8], stops: u64, at: usize, inner: bool) -> Option<NumberAt>
+fn number_at(text: &[u8], stops: u64, at: usize, inner: bool) -> Option<CellAt>
     requires long { 63 < length text.now }
     requires within { at ≤ 32 }
     requires stops { stops ≡ others (take 32 text.now) }
@@ -249,23 +249,36 @@ fn number_at(text: &[u8], stops: u64, at: usize, inner: bool) -> Option<NumberAt
         return None;
     }
     let is_last = cell_end(text[first + count], inner)?;
-    Some(NumberAt {
+    Some(CellAt {
         value: signed(is_negative, value_of(&text[first..], count)),
         end: first + count + 1,
         is_last,
     })
 }
 
-/// The cell at place `at` as `number_at` reads it, where its column is one of integers. None says
-/// nothing of the text.
+// The cell at place `at`, where it is the digit 0 or 1 and ends within the first 32 bytes. An `inner`
+// cell ends in a comma. None says nothing of the text.
 #[inline(always)]
-pub(crate) fn cell_at(
-    kind: Kind,
-    text: &[u8],
-    stops: u64,
-    at: usize,
-    inner: bool,
-) -> Option<NumberAt>
+fn truth_at(text: &[u8], at: usize, inner: bool) -> Option<CellAt>
+    requires { 63 < length text.now }
+    ensures { IfSome result (λ n. (n.end ≤ 32)
+        × BeginsWith Kind.Bool (drop at text.now) n.value (drop n.end text.now) n.is_last) }
+{
+    if at > 30 {
+        return None;
+    }
+    let cell = small_bool(&text[at..], inner)?;
+    Some(CellAt {
+        value: cell.value,
+        end: at + 2,
+        is_last: cell.is_last,
+    })
+}
+
+/// The cell at place `at`, where it is a short number, or the digit of a Boolean, that ends within
+/// the first 32 bytes. None says nothing of the text.
+#[inline(always)]
+pub(crate) fn cell_at(kind: Kind, text: &[u8], stops: u64, at: usize, inner: bool) -> Option<CellAt>
     requires long { 63 < length text.now }
     requires within { at ≤ 32 }
     requires stops { stops ≡ others (take 32 text.now) }
@@ -274,6 +287,6 @@ pub(crate) fn cell_at(
 {
     match kind {
         Kind::Int => number_at(text, stops, at, inner),
-        Kind::Bool => None,
+        Kind::Bool => truth_at(text, at, inner),
     }
 }

@@ -100,13 +100,13 @@ fn last_cells<'t>(columns: &[Column], text: &'t [u8], cells: &mut [i32]) -> Opti
         put_four(cells, 0, values);
         return Some(numbers.rest);
     }
-    last_numbers(columns, text, cells)
+    short_cells(columns, text, cells)
 }
 
-// `fill_line` for cells that are short numbers. From the first cell on that is none, `other_cells`
-// reads them.
-#[inline(always)]
-fn last_numbers<'t>(columns: &[Column], text: &'t [u8], cells: &mut [i32]) -> Option<&'t [u8]>
+// `fill_line` for cells that are short. From the first cell on that is none, `other_cells`
+// reads them. It stays a call, so that the loop over inner cells keeps its registers.
+#[inline(never)]
+fn short_cells<'t>(columns: &[Column], text: &'t [u8], cells: &mut [i32]) -> Option<&'t [u8]>
     requires { length cells.old ≡ length columns.now }
     ensures { MatchOption result
         (plain_row columns.now (record_of text.now) ≡ None)

@@ -1,7 +1,7 @@
 use Rattle.std.proofs.Common.{◌≡◌, ◌≤◌, drop, length, take}
 use Rattle.lb_trace.specs.Lines.{after_line, record_of}
 use Rattle.lb_trace.specs.PlainRows.{onto, plain_row}
-use Rattle.lb_trace.proofs.plain_rows.last_numbers.Given as goal
+use Rattle.lb_trace.proofs.plain_rows.short_cells.Given as goal
 
 abbrev pub invariant-loop-i : goal.invariant-loop-i
 invariant-loop-i l = record {

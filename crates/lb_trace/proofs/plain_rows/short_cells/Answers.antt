@@ -5,7 +5,7 @@ use Rattle.lb_trace.specs.PlainRows.{onto, plain_row}
 use Rattle.lb_trace.proofs.PlainValues.{after-last, after-more, onto-nil, pushed-value, row-full}
 use Rattle.lb_trace.proofs.PlainValues.{put-tail, row-long, row-more, row-short, tail-read}
 use Rattle.std.proofs.Common.{rules}
-use Rattle.lb_trace.proofs.plain_rows.last_numbers.Goals as goal
+use Rattle.lb_trace.proofs.plain_rows.short_cells.Goals as goal
 
 pub loop-i-init : goal.loop-i-init
 loop-i-init c = record {
