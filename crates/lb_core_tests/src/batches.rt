@@ -5,15 +5,15 @@ ghost use Rattle.lb_static.specs.Signature.{kinds_of};
 ghost use Rattle.lb_sim.specs.BatchRuns.{flat_of};
 ghost use Rattle.lb_sim.specs.InputRows.{HaveInstant};
 
-use crate::cases::{prepared, push_case};
-use crate::texts::{Said, around, expect, first_line, is_same};
-use crate::{forms, random, runs};
 use lb_check::Verdict;
 use lb_flat::{Ordered, eval_trace};
 use lb_lanes::Plane;
 use lb_sim::{
     BatchRoom, BatchRun, Inputs, LaneProgram, compile, has_kinds, run_batch, run_queue_in,
 };
+use lb_test_support::cases::{prepared, push_case};
+use lb_test_support::texts::{Said, around, expect, first_line, is_same};
+use lb_test_support::{forms, random, runs};
 use lb_traces::TraceSet;
 use std::alloc::{AllocError, Global};
 use std::test::Fail;

@@ -5,7 +5,6 @@
 //! Places are lines and columns: first that of the statement or declaration, then that of the
 //! fault, and in brackets that of a sign.
 
-use crate::texts::{Said, around, last_line, named};
 use lb_cause::{
     CheckError, ClockFault, DefinitionFault, SourceClock, SourceType, TypeFault, TypeRule,
     check_with_cause,
@@ -13,6 +12,7 @@ use lb_cause::{
 use lb_check::{Checked, Part};
 use lb_static::{CallPath, CallStep, Start, elaborate};
 use lb_syntax::{Source, line_column, parse};
+use lb_test_support::texts::{Said, around, last_line, named};
 use std::alloc::Global;
 
 /// Sources, each with its node under test, and perhaps an observer, in the last line.

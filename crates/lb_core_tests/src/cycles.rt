@@ -3,11 +3,11 @@
 //! Elements are numbered as variables are declared, those of arrays one after the other. Each of a
 //! cycle needs the next one at the same instant, and the last one the first.
 
-use crate::cases::checked_of;
-use crate::texts::Said;
 use lb_expand::expand;
 use lb_flat::{ElementId, OrderError, order};
 use lb_syntax::parse;
+use lb_test_support::cases::checked_of;
+use lb_test_support::texts::Said;
 use std::alloc::Global;
 
 // The cycle of a source; none if it has an order or is refused sooner.

@@ -5,14 +5,14 @@
 //! its instance: the node under test or the observer, and each call from there. Each element needs
 //! the next one; the first has the least number.
 
-use crate::cases::checked_of;
 use crate::cycles::least_of;
-use crate::texts::Said;
 use lb_check::Checked;
 use lb_expand::{FlatError, SizeFault, expand, with_places};
 use lb_flat::{Cycle, Flat, OrderError, order};
 use lb_static::{CallPath, CallStep};
 use lb_syntax::{line_column, parse};
+use lb_test_support::cases::checked_of;
+use lb_test_support::texts::Said;
 use std::alloc::Global;
 
 /// ` at 3:5`: the line and the column of an offset.

@@ -1,9 +1,9 @@
 //! Worked values of lane words, from the rules of the operators and not from the kernels.
 
 use crate::lanes::operator;
-use crate::texts::{Said, around, is_same};
 use crate::words::Words;
 use lb_lanes::{LaneWord, Plane, Width};
+use lb_test_support::texts::{Said, around, is_same};
 
 // Puts the value of `lane:value` into its lane. Returns whether there is such a lane and a value.
 fn set_lane(word: &mut LaneWord, spelled: &str) -> bool {

@@ -3,12 +3,12 @@
 ghost use Rattle.std.specs.Prelude.{◌≡◌, length};
 ghost use Rattle.lb_lanes.specs.Kernels.{AreInts};
 
-use crate::texts::{Said, around};
 use crate::words::Words;
 use lb_lanes::{
     IntLanes, IntOperator, Plane, and_slices, any_outside, commit_ints, commit_planes, or_slices,
     transpose, xor_slices,
 };
+use lb_test_support::texts::{Said, around};
 use std::alloc::{AllocError, Global};
 
 /// The two integers in lanes 0 and 1, and 0 elsewhere.

@@ -5,13 +5,13 @@ ghost use Rattle.std.specs.Prelude.{◌≡◌, ◌<◌, ◌≤◌, ◌+◌, IfSo
 ghost use Rattle.lb_machine.specs.Correct.{HasRoom};
 
 use crate::lanes::operator;
-use crate::texts::{Said, around, is_same};
 use crate::words::Words;
 use lb_lanes::{IntOperator, LaneWord, Width};
 use lb_machine::{
     Code, Comparison, FALSE_PLANE, PlaneId, PlaneOperator, TRUE_PLANE, WordId, carry_planes,
     carry_words,
 };
+use lb_test_support::texts::{Said, around, is_same};
 use std::alloc::{AllocError, Global};
 
 // ## Code

@@ -5,10 +5,10 @@
 //! with the offset of its first token: `+@14 from 10`. The parts of a form follow it. A name is
 //! written out if other bytes stand at its offset.
 
-use crate::texts::Said;
 use lb_syntax::{
     Constant, Declarations, Expr, Name, Node, Offset, Operator, Source, Statement, Static, parse,
 };
+use lb_test_support::texts::Said;
 use std::alloc::Global;
 
 /// The text from an offset on.

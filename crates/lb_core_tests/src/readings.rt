@@ -1,8 +1,8 @@
 //! Trace texts and the traces that are read of them, however records end and cells are written.
 
-use crate::texts::{Said, around, is_same, push_text};
 use lb_static::Signature;
 use lb_syntax::Kind;
+use lb_test_support::texts::{Said, around, is_same, push_text};
 use lb_trace::{TraceError, read_loaded, read_traces, read_traces_by};
 use lb_traces::TraceSet;
 use std::alloc::{AllocError, Global};

@@ -5,9 +5,9 @@
 //! the number of its instances and specializations, the nodes that are reached, and the scalar
 //! inputs.
 
-use crate::texts::{Said, around, is_same, last_line, named};
 use lb_static::{Elab, StaticError, elaborate};
 use lb_syntax::{Source, SyntaxError, parse};
+use lb_test_support::texts::{Said, around, is_same, last_line, named};
 use std::alloc::Global;
 
 /// `7 of 4: main f g | x: Int`

@@ -4,13 +4,13 @@
 //! is line and column, counted by hand. A path to an instance is the start and then the calls, with
 //! the index of an iterated call: `main > f 5:12[0]`.
 
-use crate::texts::{Said, around, last_line, named};
 use lb_static::{
     CallCycle, CallPath, CallStep, CycleCall, Elab, Limit, LimitFault, NameFault, NameRule,
     RangeFault, RangeRole, RootFault, RootRule, Sought, Start, StaticError, ValueFault, ValueRule,
     elaborate,
 };
 use lb_syntax::{BinaryOperator, Source, line_column, parse};
+use lb_test_support::texts::{Said, around, last_line, named};
 use std::alloc::Global;
 
 /// `5:12`, line and column of an offset.

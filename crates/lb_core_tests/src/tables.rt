@@ -1,11 +1,11 @@
 //! The tables of text.
 
-use crate::rows::{BATCHES, LINES, OFFSETS, PLACES, TEXTS, Table, first_wrong};
-use crate::texts::{Said, expect};
 use crate::{
     batches, check_causes, cycles, elaboration, flat_causes, lane_words, lanes, machine, offsets,
     readings, source_places, source_texts, sources, static_causes,
 };
+use lb_test_support::rows::{BATCHES, LINES, OFFSETS, PLACES, TEXTS, Table, first_wrong};
+use lb_test_support::texts::{Said, expect};
 use std::test::Fail;
 use std::thread::Threads;
 

@@ -1,7 +1,7 @@
 //! The words of a row.
 
-use crate::texts::around;
 use lb_lanes::Plane;
+use lb_test_support::texts::around;
 
 /// The words of a row, read one after the other. It keeps whether a number was missing, so that its
 /// reader goes on and asks once.

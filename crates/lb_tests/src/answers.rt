@@ -4,8 +4,8 @@ ghost use Rattle.std.specs.Prelude.{◌<◌, IfOk};
 
 use crate::rounds;
 use lb_cause::CheckError;
-use lb_core_tests::texts::{Said, around, first_line, push_unlike};
 use lb_report::{BenchError, Options, Report, run_case};
+use lb_test_support::texts::{Said, around, first_line, push_unlike};
 use std::alloc::{AllocError, Global};
 use std::thread::Threads;
 

@@ -2,8 +2,8 @@
 
 use crate::rounds::push_whole;
 use crate::sections::push_ranges;
-use lb_core_tests::texts::{Said, expect, push_unlike};
 use lb_report::{FilePlaces, Sizes};
+use lb_test_support::texts::{Said, expect, push_unlike};
 use std::alloc::Global;
 use std::fs::Files;
 use std::os::unix::fs::FileExt;

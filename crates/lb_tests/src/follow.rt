@@ -4,12 +4,12 @@ ghost use Rattle.std.specs.Prelude.{◌<◌};
 
 use crate::answers::spread;
 use crate::pool::{Hold, LANES, SPREADS, TURNS, first_case};
-use lb_core_tests::cases::push_case;
-use lb_core_tests::rows::write_out;
-use lb_core_tests::texts::{Said, around, expect, push_unlike};
 use lb_report::{
     FollowFault, Gate, NoGate, Options, Sink, TextPlaces, Writer, follow, follow_file, split_case,
 };
+use lb_test_support::cases::push_case;
+use lb_test_support::rows::write_out;
+use lb_test_support::texts::{Said, around, expect, push_unlike};
 use std::hint::spin_loop;
 use std::io::{ErrorKind, Write};
 use std::sync::Wait;

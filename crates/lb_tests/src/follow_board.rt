@@ -9,11 +9,11 @@ ghost use Rattle.lb_board.specs.Settlements.{IsRight};
 
 use crate::pool::first_case;
 use lb_check::Verdict;
-use lb_core_tests::cases::prepared;
-use lb_core_tests::texts::{Said, expect};
 use lb_flat::{Ordered, eval_trace};
 use lb_pool::{FollowBoard, FollowSeat, Look, Plan};
 use lb_sim::has_kinds;
+use lb_test_support::cases::prepared;
+use lb_test_support::texts::{Said, expect};
 use lb_traces::TraceSet;
 use std::alloc::{AllocError, Global};
 use std::test::Fail;

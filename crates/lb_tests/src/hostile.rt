@@ -1,7 +1,7 @@
 //! Texts that are cut short or damaged, and programs at their limits.
 
 use crate::answers::{push_run, spread};
-use lb_core_tests::texts::{Said, around, expect};
+use lb_test_support::texts::{Said, around, expect};
 use std::test::Fail;
 use std::thread::Threads;
 

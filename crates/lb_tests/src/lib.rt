@@ -1,6 +1,6 @@
 //! Tests of the bench below the command line, as its callers meet it: of runs by workers, reports,
 //! refusals and files. There is nothing else here. The loop over tables of text, and what else
-//! tests share, is that of `lb_core_tests`.
+//! tests share, is that of `lb_test_support`.
 #![tactic(auto)]
 
 #[cfg(test)]

@@ -5,13 +5,13 @@ ghost use Rattle.lb_board.specs.Seats.{IsSeatOf, shares_of};
 
 use crate::answers::{push_answer, push_run, spread};
 use lb_check::Verdict;
-use lb_core_tests::cases::{prepared, push_case};
-use lb_core_tests::rows::write_out;
-use lb_core_tests::texts::{Said, around, expect, push_unlike};
 use lb_flat::{Ordered, eval_trace};
 use lb_pool::{ClaimBoard, ClaimSeat, Gate, Plan, run_claims};
 use lb_report::{Options, status};
 use lb_static::Signature;
+use lb_test_support::cases::{prepared, push_case};
+use lb_test_support::rows::write_out;
+use lb_test_support::texts::{Said, around, expect, push_unlike};
 use lb_trace::read_traces;
 use lb_traces::TraceSet;
 use std::alloc::{AllocError, Global};

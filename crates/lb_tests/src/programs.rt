@@ -1,7 +1,7 @@
 //! The rules of types, clocks and definitions, and of traces, one program a row.
 
 use crate::answers;
-use lb_core_tests::texts::Said;
+use lb_test_support::texts::Said;
 use std::thread::Threads;
 
 /// The answer on a program of `NODES`, a front and an end. A program that keeps the rules is

@@ -3,7 +3,7 @@
 
 use crate::rounds::{SUM, push_unlike_rounds, push_whole};
 use crate::sections::push_unlike_reads;
-use lb_core_tests::texts::{Said, expect};
+use lb_test_support::texts::{Said, expect};
 use std::test::Fail;
 use std::thread::Threads;
 

@@ -1,9 +1,9 @@
 //! Case texts that are refused, and the refusal.
 
 use crate::answers::push_refusal;
-use lb_core_tests::texts::{Said, expect};
 use lb_report::BenchError;
 use lb_syntax::SyntaxError;
+use lb_test_support::texts::{Said, expect};
 use lb_trace::TraceError;
 use std::alloc::Global;
 use std::test::Fail;

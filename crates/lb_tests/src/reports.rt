@@ -1,8 +1,8 @@
 //! Case texts in their two parts, statuses and options.
 
 use lb_check::Verdict;
-use lb_core_tests::texts::{Said, expect};
 use lb_report::{Options, split_case, status};
+use lb_test_support::texts::{Said, expect};
 use std::alloc::{AllocError, Global};
 use std::test::Fail;
 

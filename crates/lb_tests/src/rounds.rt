@@ -2,8 +2,8 @@
 //! text as a whole.
 
 use crate::answers::{push_refusal, spread};
-use lb_core_tests::texts::{Said, around, expect, push_text, push_unlike};
 use lb_report::{BenchError, FeedFault, LoadError, Reader, Report, Sizes, bench, bench_feed};
+use lb_test_support::texts::{Said, around, expect, push_text, push_unlike};
 use std::io::{ErrorKind, Read};
 use std::test::Fail;
 use std::thread::Threads;

@@ -3,8 +3,8 @@
 
 use crate::answers::spread;
 use crate::rounds::{FAILING, SIZES, SUM, push_found};
-use lb_core_tests::texts::{Said, expect, is_same, push_text, push_unlike};
 use lb_report::{FilePlaces, PlacedFile, Sizes, TextPlaces, bench_ranges};
+use lb_test_support::texts::{Said, expect, is_same, push_text, push_unlike};
 use std::alloc::Global;
 use std::fs::{Metadata, OpenFile};
 use std::io::{Error, ErrorKind};

@@ -1,7 +1,7 @@
 //! Reading an input and writing an output, where they work and where they fail.
 
-use lb_core_tests::texts::{Said, expect};
 use lb_report::{Feed, LoadError, Reader, Sent, Sink, Writer, load, send};
+use lb_test_support::texts::{Said, expect};
 use std::alloc::{AllocError, Global};
 use std::io::{ErrorKind, Read, Write};
 use std::test::Fail;

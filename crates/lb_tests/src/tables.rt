@@ -1,9 +1,9 @@
 //! The tables of text.
 
 use crate::{answers, hostile, pool, programs, refusals, reports, rounds, sections};
-use lb_core_tests::rows::{CASES, LINES, SPREADS, TEXTS, Table, first_wrong};
-use lb_core_tests::texts::{Said, expect};
-use lb_core_tests::{forms, random, runs};
+use lb_test_support::rows::{CASES, LINES, SPREADS, TEXTS, Table, first_wrong};
+use lb_test_support::texts::{Said, expect};
+use lb_test_support::{forms, random, runs};
 use std::test::Fail;
 use std::thread::Threads;
 
