@@ -18,6 +18,7 @@ use crate::sections::{ends_in_file, judge_ranges};
 use lb_feed::{Feed, LoadError, PlacedFile, TextFeed, Window, bytes_from};
 use lb_pool::{LaneProgram, Report, SetRunner, compile};
 use lb_refusal::{BenchError, Options};
+use lb_static::Signature;
 use lb_trace::TraceError;
 use rayon::current_num_threads;
 use std::alloc::Global;
@@ -91,9 +92,38 @@ impl From<LoadError> for FeedFault {
     }
 }
 
-/// A round of this many bytes fills a worker's lanes without packing. Packing takes time, so such a
-/// round keeps 32 bits for each integer.
+/// A round of this many bytes fills a worker's lanes without packing, unless the program is large.
+/// Packing takes time, so such a round keeps 32 bits for each integer.
 const ROOMY: usize = 16 << 20;
+
+/// Rows of a small round are packed as long as at most one integer in this many does not fit 16
+/// bits.
+const FEW: usize = 16;
+
+/// Rows of a roomy round are packed as long as at most one integer in this many does not fit:
+/// packing gains less there.
+const RARE: usize = 256;
+
+/// How many instants a long trace has, where it is asked whether a roomy round has enough.
+const LONG_TRACE: usize = 1024;
+
+// How many instants a round has at least for each instant of its longest trace, so that lanes are
+// seldom idle. At the end of a round they are; and the more planes and words a program has, the
+// longer an instant takes.
+fn turns_of(lanes: &LaneProgram<'_>) -> usize {
+    (lanes.planes as usize + lanes.words as usize) / 4
+}
+
+// As long as at most one integer in how many does not fit 16 bits the rows of a round are packed;
+// 0 where a round has enough instants without it.
+fn packing_of(signature: &Signature, turns: usize, sizes: Sizes) -> usize {
+    if sizes.round < ROOMY {
+        return FEW;
+    }
+    let row = row_bytes(signature, false);
+    let wanted = turns.saturating_mul(LONG_TRACE).saturating_mul(row);
+    if wanted > sizes.round { RARE } else { 0 }
+}
 
 /// The rounds in which the traces of a program are judged, each by `workers` workers.
 fn rounds_of<'a, 'p>(
@@ -108,13 +138,14 @@ fn rounds_of<'a, 'p>(
     ensures signature { result.signature.now ≡ program.now.signature }
     ensures program { result.runner.program.now.program.now ≡ lanes.now.program.now }
 {
-    let packs = sizes.round < ROOMY;
+    let turns = turns_of(lanes);
+    let one_in = packing_of(&program.signature, turns, sizes);
     let bytes = if workers == 1 {
         sizes.round
     } else {
         sizes.shared
     };
-    let row = row_bytes(&program.signature, packs).max(1);
+    let row = row_bytes(&program.signature, one_in > 0).max(1);
     Rounds {
         alloc,
         signature: &program.signature,
@@ -124,7 +155,8 @@ fn rounds_of<'a, 'p>(
         },
         instants: (bytes / row).clamp(1, 4_000_000) as u32,
         bytes,
-        packs,
+        one_in,
+        turns,
         window: sizes.window,
         workers,
     }

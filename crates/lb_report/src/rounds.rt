@@ -32,6 +32,10 @@ use std::thread::Threads;
 /// The most traces of a round, about.
 const MOST_TRACES: u32 = 16_384;
 
+/// A round of fewer bytes of rows is never enough for a worker: what its rows take in memory is
+/// little beside the rest.
+const LEAST_ROUND: usize = 8 << 20;
+
 /// How a text is judged: the program, the signature of its traces, how large the rounds are and how
 /// many workers run them.
 #[derive(Clone, Copy)]
@@ -42,8 +46,11 @@ pub(crate) struct Rounds<'a, 'p> {
     /// How many instants a round has, about, and how many bytes its rows take.
     pub(crate) instants: u32,
     pub(crate) bytes: usize,
-    /// Whether the integers of a round take 16 bits each where most of them fit.
-    pub(crate) packs: bool,
+    /// The integers of a round take 16 bits each as long as at most one in this many does not fit;
+    /// with 0 they take 32.
+    pub(crate) one_in: usize,
+    /// How many instants are enough for each instant of the longest trace.
+    pub(crate) turns: usize,
     /// How many bytes of a text, or of a section, are in memory, unless a trace is longer.
     pub(crate) window: usize,
     /// How many workers run a round.
@@ -135,6 +142,15 @@ pub(crate) fn row_bytes(signature: &Signature, packs: bool) -> usize {
     integer_bytes(packs) * integers + 8 * booleans.div_ceil(64)
 }
 
+// The number of instants of the longest trace of a set.
+fn longest(set: &TraceSet) -> u32 {
+    let mut most = 0;
+    for k in 0..set.len() {
+        most = most.max(set.length(k));
+    }
+    most
+}
+
 /// The verdicts of some traces, and behind them those that others were found to have.
 pub(crate) fn joined(
     verdicts: Vec<Verdict>,
@@ -212,7 +228,7 @@ impl Rounds<'_, '_> {
     {
         let cells = (self.instants as usize).saturating_mul(self.signature.len() as usize);
         let cells = cells.saturating_add(cells / 4);
-        RoundReader::new(self.alloc, self.signature, cells, self.packs)
+        RoundReader::new(self.alloc, self.signature, cells, self.one_in)
     }
 
     /// A state of `judged` and an empty round.
@@ -251,10 +267,24 @@ impl Rounds<'_, '_> {
     }
 
     /// Whether a round has enough traces to be run: it has `bytes` bytes of rows, or many instants
-    /// or traces.
+    /// or traces, or enough instants for its longest trace.
     pub(crate) fn is_full(&self, round: &RoundReader, bytes: usize) -> bool {
         let set = round.set();
-        set.instants() >= self.instants || set.bytes() >= bytes || set.len() >= MOST_TRACES
+        set.instants() >= self.instants
+            || set.bytes() >= bytes
+            || set.len() >= MOST_TRACES
+            || self.is_enough(set)
+    }
+
+    // Whether the traces of a round are so many that few lanes are idle at its end, where one
+    // worker runs it. More rows would only take more memory, and each page costs time when it is
+    // touched for the first time.
+    fn is_enough(&self, set: &TraceSet) -> bool {
+        if self.workers > 1 || set.bytes() < LEAST_ROUND {
+            return false;
+        }
+        let enough = (longest(set) as usize).saturating_mul(self.turns);
+        set.instants() as usize >= enough
     }
 
     /// The verdicts of the traces of a round, in their order, by several workers.

@@ -160,11 +160,12 @@ impl Recorder {
         let _ = self.rows.reserve((bytes / 2 + 1).min(MOST_CELLS));
     }
 
-    /// Says whether the integers of rows take 16 bits each from now on, where most of them fit.
-    pub(crate) fn set_packing(&mut self, packs: bool)
+    /// Says that the integers of rows are packed from now on, as long as at most one in `one_in`
+    /// does not fit 16 bits; with 0 none is packed.
+    pub(crate) fn set_packing(&mut self, one_in: usize)
         ensures { self.new ≡ self.old }
     {
-        self.rows.set_packing(packs);
+        self.rows.set_packing(one_in);
     }
 
     /// Drops all traces, and keeps their memory for others.

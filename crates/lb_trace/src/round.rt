@@ -44,18 +44,18 @@ impl Drop for RoundReader {
 impl RoundReader {
     ghost use Rattle.lb_trace.specs.RoundReaders.{IsRound, goes_on};
 
-    /// No trace yet, with room for `cells` cells. If `packs` is true, the integers of rows take 16
-    /// bits each where most of them fit.
+    /// No trace yet, with room for `cells` cells. The integers of rows take 16 bits each, as long as
+    /// at most one in `one_in` does not fit; with 0 they take 32.
     pub fn new(
         alloc: Global,
         signature: &Signature,
         cells: usize,
-        packs: bool,
+        one_in: usize,
     ) -> Result<RoundReader, AllocError>
         ensures { IfOk result (IsRound signature.now []) }
     {
         let mut recorder = Recorder::new(alloc, signature)?;
-        recorder.set_packing(packs);
+        recorder.set_packing(one_in);
         recorder.make_room(cells.saturating_mul(2));
         Ok(RoundReader {
             recorder,

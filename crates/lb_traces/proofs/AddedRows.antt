@@ -28,7 +28,7 @@ use Rattle.lb_traces.proofs.Storing.{length-row, start_keeps, start_adds, push_k
 use Rattle.lb_traces.proofs.PackedRows.{no_truth}
 use Rattle.lb_traces.proofs.KindColumns.{truths_within, numbers_within}
 use Rattle.lb_traces.proofs.HeldRows.{length-kinds, same_held, row_come, row_kept, same_cells}
-use Rattle.lb_traces.proofs.HeldRows.{cells_more, filled_more, row_pushed, integers_alone}
+use Rattle.lb_traces.proofs.HeldRows.{cells_more, filled_more, row_pushed}
 
 -- ## One more row
 
@@ -103,18 +103,6 @@ integers_in old elements names numbers words ends integers truths places row vie
       long,
       length-kinds elements,
     ))
-
-pub alone_in :
-    (old : Recording) (elements : Elements) (names : List (List ℕ)) (numbers : List ℤ)
-    (words ends integers truths places : List ℕ) (row : Row) →
-    stored elements names (cells_of elements numbers words ends) ends ≡ old →
-    IsSet elements names numbers words ends integers truths places → IsRow old.signature row →
-    length integers ≡ length row → numbers_in row integers ≡ row
-alone_in old elements names numbers words ends integers truths places row view is follows alone =
-    let long : length row ≡ length elements =
-    length-row elements row (subst (λ (r : Recording). IsRow r.signature row) (sym view) follows) in
-    ap (numbers_in row) is.columns.integers_are
-    ∙ integers_alone elements row long (sym (ap length is.columns.integers_are) ∙ alone)
 
 pub truths_in :
     (old : Recording) (elements : Elements) (names : List (List ℕ)) (numbers : List ℤ)

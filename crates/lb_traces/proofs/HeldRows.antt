@@ -19,7 +19,6 @@ use Rattle.lb_traces.specs.Packed.{truth_columns, number_columns, places_from, w
 use Rattle.lb_traces.specs.Packed.{truth_in, ArePacked, numbers_in, truth_cell, cell_held, row_held}
 use Rattle.lb_traces.specs.Packed.{numbers_of, words_of, nth_row, cells_held, AreFilled}
 use Rattle.lb_traces.proofs.KindColumns.{length-places, int_place, bool_place, rows_agree}
-use Rattle.lb_traces.proofs.KindColumns.{all_columns}
 use Rattle.lb_traces.proofs.StoredRows.{row_of-append, row_of-grown, row_within}
 use Rattle.lb_traces.proofs.Storing.{length-row}
 
@@ -190,26 +189,6 @@ module _ (elements : Elements) (row : Row) (follows : IsRow elements row) (words
       cell_of_row kinds numbers words c d below
       ∙ by_kind c below (get_or kinds c Int_kind) refl
       ∙ get_or_default row c (pos 0) d (omega (arith, below, full)))
-
--- a row that is all integers is the integers of its columns
-pub integers_alone :
-    (elements : Elements) (row : Row) → length row ≡ length elements →
-    length (number_columns 0 (kinds_of elements)) ≡ length row →
-    numbers_in row (number_columns 0 (kinds_of elements)) ≡ row
-integers_alone elements row full alone =
-    let columns = number_columns 0 (kinds_of elements) in
-    let long : length (numbers_in row columns) ≡ length columns =
-    length-map columns (λ (j : ℕ). get_or row j (pos 0)) in
-    same_lists (numbers_in row columns) row (long ∙ alone)
-    (λ c d l.
-    let below : c < length columns = omega (arith, l, long) in
-    let column : get_or columns c 0 ≡ c =
-    all_columns 0 (kinds_of elements) (omega (arith, alone, full, length-kinds elements)) c
-    (omega (arith, below, alone, full, length-kinds elements))
-    ∙ omega arith in
-    get_or-map (λ (j : ℕ). get_or row j (pos 0)) columns c 0 d below
-    ∙ ap (λ j. get_or row j (pos 0)) column
-    ∙ get_or_default row c (pos 0) d (omega (arith, below, alone)))
 
 -- ## All cells
 

@@ -337,17 +337,6 @@ numbers_within kinds w d l = omega (arith, within 0 kinds w l)
     within j (Int_kind ∷ ks) (suc k) h = omega (arith, within (suc j) ks k (omega (arith, h)))
     within j (Bool_kind ∷ ks) k h = omega (arith, within (suc j) ks k h)
 
--- where all columns hold integers, the columns of integers are all columns
-pub all_columns :
-    (j : ℕ) (kinds : List Kind) → length (number_columns j kinds) ≡ length kinds → (c : ℕ) →
-    c < length kinds → get_or (number_columns j kinds) c 0 ≡ j + c
-all_columns j [] e c l = absurd (omega (arith, l))
-all_columns j (Bool_kind ∷ kinds) e c l = absurd (omega (arith, e, few_numbers (suc j) kinds))
-all_columns j (Int_kind ∷ kinds) e zero l = let h : j ≡ j + 0 = omega arith in h
-all_columns j (Int_kind ∷ kinds) e (suc c) l =
-    let h : suc j + c ≡ j + suc c = omega arith in
-    all_columns (suc j) kinds (omega (arith, e)) c (omega (arith, l)) ∙ h
-
 -- two functions that agree on the numbers of each kind make the same row
 pub rows_agree :
     {A : Type 0} (j u v : ℕ) (kinds : List Kind) (f g : Kind → ℕ → A) →

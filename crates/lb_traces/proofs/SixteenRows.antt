@@ -16,7 +16,7 @@ use Rattle.std.specs.Prelude.{bit_or, int_le}
 use Rattle.lb_syntax.specs.declared.tree.Kind.{Kind}
 use Rattle.lb_syntax.specs.declared.tree.Kind.TheVariants.{Int as Int_kind, Bool as Bool_kind}
 use Rattle.lb_static.specs.Signature.{Elements}
-use Rattle.lb_traces.specs.Packed.{numbers_in, truth_in}
+use Rattle.lb_traces.specs.Packed.{numbers_in, truth_in, AreTogether}
 use Rattle.lb_traces.specs.Traces.{IsCell, IsInt, IsRow, Row}
 use Rattle.lb_traces.proofs.PackedRows.{Packing}
 
@@ -117,28 +117,40 @@ packing_sixteen row columns first word bits n h most room near each small = reco
 
 -- ## Integers
 
--- the integers of sixteen more columns are the sixteen cells from the first of them on
-pub sixteen-more : (row : List ℤ) (columns : List ℕ) (w : ℕ) → w + 16 ≤ length columns
-    → AreNeighbours columns w → get_or columns w 0 + 16 ≤ length row
-    → numbers_in row (take (w + 16) columns)
-    ≡ numbers_in row (take w columns) ++ take 16 (drop (get_or columns w 0) row)
-sixteen-more row columns w room near inside =
+-- the integers of `n` more columns, which stand side by side, are the `n` cells from the first of
+-- them on
+pub more-together : (row : List ℤ) (columns : List ℕ) (w n : ℕ) → w + n ≤ length columns
+    → ((k : ℕ) → k < n → get_or columns (w + k) 0 ≡ get_or columns w 0 + k)
+    → get_or columns w 0 + n ≤ length row
+    → numbers_in row (take (w + n) columns)
+    ≡ numbers_in row (take w columns) ++ take n (drop (get_or columns w 0) row)
+more-together row columns w n room near inside =
     let f : ℕ → ℤ = λ j. get_or row j (pos 0) in
     let start : ℕ = get_or columns w 0 in
-    let some : List ℕ = take 16 (drop w columns) in
-    let size : length some ≡ 16 =
-    length-take-le 16 (drop w columns) (omega (arith, length-drop w columns, room)) in
-    let cells : List ℤ = take 16 (drop start row) in
-    let long : length cells ≡ 16 =
-    length-take-le 16 (drop start row) (omega (arith, length-drop start row, inside)) in
-    ap (map f) (take-add w 16 columns)
+    let some : List ℕ = take n (drop w columns) in
+    let size : length some ≡ n =
+    length-take-le n (drop w columns) (omega (arith, length-drop w columns, room)) in
+    let cells : List ℤ = take n (drop start row) in
+    let long : length cells ≡ n =
+    length-take-le n (drop start row) (omega (arith, length-drop start row, inside)) in
+    ap (map f) (take-add w n columns)
     ∙ map-append f (take w columns) some
     ∙ ap (λ l. map f (take w columns) ++ l)
     (same_lists (map f some) cells (length-map some f ∙ size ∙ sym long)
     (λ k d l.
-    let below : k < 16 = omega (arith, l, length-map some f, size) in
+    let below : k < n = omega (arith, l, length-map some f, size) in
     get_or-map f some k 0 d (omega (arith, below, size))
-    ∙ ap f (get_or-take 16 (drop w columns) k 0 below ∙ get_or-drop w columns k 0 ∙ near k below)
-    ∙ sym (get_or-take 16 (drop start row) k d below
+    ∙ ap f (get_or-take n (drop w columns) k 0 below ∙ get_or-drop w columns k 0 ∙ near k below)
+    ∙ sym (get_or-take n (drop start row) k d below
     ∙ get_or-drop start row k d
     ∙ get_or_default row (start + k) d (pos 0) (omega (arith, below, inside)))))
+
+-- the integers of the first `n` columns, which stand side by side, are `n` cells
+pub together-cells : (row : List ℤ) (columns : List ℕ) (n : ℕ) → AreTogether columns n
+    → get_or columns 0 0 + n ≤ length row
+    → numbers_in row (take n columns) ≡ take n (drop (get_or columns 0 0) row)
+together-cells row columns n near inside =
+    let few = near.within in
+    ap (λ m. numbers_in row (take m columns)) (omega arith)
+    ∙ more-together row columns 0 n (omega (arith, few))
+    (λ k below. ap (λ m. get_or columns m 0) (omega arith) ∙ near.side k below) inside

@@ -62,6 +62,11 @@ pub record HasPushed (old : List ℕ) (row : List ℤ) (columns new : List ℕ) 
   pub is : new ≡ old ++ more
   pub packed : ArePacked row columns more
 
+-- the first `n` columns stand side by side
+pub record AreTogether (columns : List ℕ) (n : ℕ) : Type 0 where
+  pub within : n ≤ length columns
+  pub side : (k : ℕ) → k < n → get_or columns k 0 ≡ get_or columns 0 0 + k
+
 -- the integers of a row in `columns`
 abbrev pub numbers_in : List ℤ → List ℕ → List ℤ
 numbers_in row columns = map (λ j. get_or row j (pos 0)) columns

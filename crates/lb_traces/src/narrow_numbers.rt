@@ -7,7 +7,7 @@
 //! ```
 
 ghost use Rattle.std.specs.Prelude.{◌≡◌, ℕ, ◌<◌, ◌≤◌, ◌+◌, ◌*◌, [], ◌∷◌, ◌++◌, length, get_or};
-ghost use Rattle.std.specs.Prelude.{true, pos, OnOk};
+ghost use Rattle.std.specs.Prelude.{true, false, pos, negsuc, int_le, OnOk};
 ghost use Rattle.lb_traces.specs.Narrow.{value_at, AreCells, IsTold};
 
 use std::alloc::{AllocError, Global};
@@ -48,8 +48,8 @@ impl Model for NarrowNumbers {
     ghost invariant = { λ n. IsNarrow n.cells.items n.places.items n.values.items };
 }
 
-/// Whether an integer fits 16 bits, and is not the least of them.
-pub(crate) fn is_told(number: i32) -> bool
+// Whether an integer fits 16 bits, and is not the least of them.
+fn is_told(number: i32) -> bool
     ensures { result ≡ true → IsTold number }
 {
     number > -32768 && number <= 32767
@@ -78,6 +78,18 @@ fn are_told(numbers: &[i32]) -> bool
     let mut all = true;
     for number in numbers {
         all = is_told(*number) && all;
+    }
+    all
+}
+
+/// Whether each of some cells is an integer itself, and none tells that it stands elsewhere.
+pub(crate) fn are_integers(cells: &[i16]) -> bool
+    ensures { result ≡ true → (w : ℕ) → w < length cells.now
+        → int_le (get_or cells.now w (pos 0)) (negsuc 32767) ≡ false }
+{
+    let mut all = true;
+    for cell in cells {
+        all = *cell > ELSEWHERE && all;
     }
     all
 }
@@ -124,9 +136,9 @@ impl NarrowNumbers {
         2 * self.cells.len() + 8 * self.places.len()
     }
 
-    /// Whether more than one integer in sixteen stands elsewhere.
-    pub(crate) fn is_crowded(&self) -> bool {
-        self.places.len() > self.cells.len() / 16
+    /// How many integers stand elsewhere.
+    pub(crate) fn large(&self) -> usize {
+        self.places.len()
     }
 
     /// The integer at a place.

@@ -9,9 +9,9 @@
 ghost use Rattle.std.specs.Prelude.{◌≡◌, ◌<◌, ◌≤◌, ◌+◌, ◌-◌, ◌*◌, [], ◌++◌, length, get_or, take};
 ghost use Rattle.std.specs.Prelude.{drop, pos, vec_len, vec_capacity, OnErr, OnOk, IfSome, All};
 ghost use Rattle.std.specs.Prelude.{true};
-ghost use Rattle.lb_traces.specs.Packed.{numbers_in};
+ghost use Rattle.lb_traces.specs.Packed.{numbers_in, AreTogether};
 
-use crate::narrow_numbers::{ELSEWHERE, NarrowNumbers, is_told};
+use crate::narrow_numbers::{ELSEWHERE, NarrowNumbers, are_integers};
 use crate::neighbours::are_neighbours;
 use crate::row_columns::cell_in;
 use std::alloc::{AllocError, Global};
@@ -19,6 +19,9 @@ use std::marker::Model;
 
 /// How many integers are packed at once, about.
 const BLOCK: usize = 4096;
+
+/// So many integers that do not fit are no reason to stop packing: a few traces may be full of them.
+const BURST: usize = 4096;
 
 /// A list of integers, to which rows are added.
 ///
@@ -29,7 +32,10 @@ pub(crate) struct Numbers {
     packed: NarrowNumbers,
     /// The others, in 32 bits each.
     tail: Vec<i32>,
-    /// Whether the tail is packed once it is long.
+    /// The tail is packed once it is long, as long as at most one integer in this many does not
+    /// fit; 0 where none is packed.
+    one_in: usize,
+    /// Whether that was so for all integers so far.
     packs: bool,
 }
 
@@ -98,6 +104,17 @@ impl<'a> NumberRow<'a> {
         }
     }
 
+    /// The integers of the row as they stand in memory, if they have 16 bits each there.
+    #[inline]
+    pub fn narrow(&self) -> Option<&'a [i16]>
+        ensures { IfSome result (λ cells. cells.now ≡ self.now) }
+    {
+        match &self.cells {
+            RowCells::Narrow(cells, _, _) if are_integers(*cells) => Some(*cells),
+            _ => None,
+        }
+    }
+
     /// The integer at a place of the row.
     #[inline]
     pub fn get(&self, w: usize) -> i32
@@ -119,25 +136,33 @@ impl<'a> NumberRow<'a> {
     }
 }
 
-// Whether more than one integer in sixteen does not fit 16 bits.
-fn are_crowded(numbers: &[i32]) -> bool {
-    let large = numbers.iter().filter(|number| !is_told(**number)).count();
-    large > numbers.len() / 16
-}
-
-// Adds the integers of one more row, for which there is room. A row of integers alone is one copy.
-fn push_numbers(numbers: &mut Vec<i32>, row: &[i32], columns: &[u32])
+// Adds the integers of the first columns of a row, which stand side by side.
+#[inline]
+fn push_together(numbers: &mut Vec<i32>, row: &[i32], columns: &[u32], together: usize)
     requires room { vec_len numbers.old + length columns.now ≤ vec_capacity numbers.old }
     requires columns { All (λ j. j < length row.now) columns.now }
-    requires alone { length columns.now ≡ length row.now
-        → numbers_in row.now columns.now ≡ row.now }
-    ensures { numbers.new.items ≡ numbers.old.items ++ numbers_in row.now columns.now }
+    requires together { AreTogether columns.now together }
+    ensures items { numbers.new.items
+        ≡ numbers.old.items ++ numbers_in row.now (take together columns.now) }
+    ensures room { vec_len numbers.new + (length columns.now - together)
+        ≤ vec_capacity numbers.new }
 {
-    if columns.len() == row.len() {
-        let _ = numbers.extend_from_slice(row);
+    if together == 0 {
         return;
     }
-    let mut w = 0;
+    let start = columns[0] as usize;
+    let _ = numbers.extend_from_slice(&row[start..start + together]);
+}
+
+// Adds the integers of one more row, for which there is room.
+fn push_numbers(numbers: &mut Vec<i32>, row: &[i32], columns: &[u32], together: usize)
+    requires room { vec_len numbers.old + length columns.now ≤ vec_capacity numbers.old }
+    requires columns { All (λ j. j < length row.now) columns.now }
+    requires together { AreTogether columns.now together }
+    ensures { numbers.new.items ≡ numbers.old.items ++ numbers_in row.now columns.now }
+{
+    push_together(numbers, row, columns, together);
+    let mut w = together;
     while w < columns.len() {
         if columns.len() - w >= 16 && are_neighbours(columns, w) {
             let start = columns[w] as usize;
@@ -158,15 +183,18 @@ impl Numbers {
         Numbers {
             packed: NarrowNumbers::new(alloc),
             tail: Vec::new(alloc),
+            one_in: 0,
             packs: false,
         }
     }
 
-    /// Says whether integers are packed from now on. It changes none of them.
-    pub(crate) fn set_packing(&mut self, packs: bool)
+    /// Says that integers are packed from now on, as long as at most one in `one_in` does not fit;
+    /// with 0 none is packed. It changes no integer.
+    pub(crate) fn set_packing(&mut self, one_in: usize)
         ensures { self.new ≡ self.old }
     {
-        self.packs = packs;
+        self.one_in = one_in;
+        self.packs = one_in > 0;
     }
 
     /// How many bytes the integers take.
@@ -250,18 +278,24 @@ impl Numbers {
         self.tail.capacity() - self.tail.len() >= count
     }
 
-    // Packs the tail, unless these are the first integers and too many do not fit: then none will be
-    // packed.
+    // Whether more than one packed integer in `one_in` does not fit. Behind the first block a burst
+    // is left out.
+    fn is_crowded(&self) -> bool {
+        let all = self.packed.len();
+        let burst = if all < 2 * BLOCK { 0 } else { BURST };
+        let large = self.packed.large().saturating_sub(burst);
+        large.saturating_mul(self.one_in) > all
+    }
+
+    // Packs the tail. No more are packed where too many do not fit.
     #[inline(never)]
     fn tidy(&mut self) -> Result<(), AllocError>
         requires { length self.old.items ≤ 4294967296 }
         ensures { self.new.items ≡ self.old.items }
     {
-        if self.packed.len() == 0 && are_crowded(self.tail.as_slice()) {
-            self.packs = false;
-            return Ok(());
-        }
-        self.pack()
+        self.pack()?;
+        self.packs = !self.is_crowded();
+        Ok(())
     }
 
     /// Makes room for a row of `count` integers.
@@ -289,15 +323,15 @@ impl Numbers {
         self.reserve_row(count)
     }
 
-    /// Adds the integers of one more row, for which there is room.
-    pub(crate) fn push_row(&mut self, row: &[i32], columns: &[u32])
+    /// Adds the integers of one more row, for which there is room. The first `together` columns
+    /// stand side by side.
+    pub(crate) fn push_row(&mut self, row: &[i32], columns: &[u32], together: usize)
         requires room { length columns.now ≤ self.old.room }
         requires columns { All (λ j. j < length row.now) columns.now }
-        requires alone { length columns.now ≡ length row.now
-            → numbers_in row.now columns.now ≡ row.now }
+        requires together { AreTogether columns.now together }
         ensures { self.new.items ≡ self.old.items ++ numbers_in row.now columns.now }
     {
-        push_numbers(&mut self.tail, row, columns);
+        push_numbers(&mut self.tail, row, columns, together);
     }
 
     // Adds the integers of another list from `start` to before `end`, one by one.
@@ -342,9 +376,7 @@ impl Numbers {
     pub(crate) fn clear(&mut self)
         ensures { self.new.items ≡ [] }
     {
-        if self.packed.is_crowded() {
-            self.packs = false;
-        }
+        self.packs = self.one_in > 0;
         self.packed.clear();
         self.tail.clear();
     }

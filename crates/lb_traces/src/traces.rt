@@ -287,11 +287,11 @@ impl TraceSet {
         self.words.reserve(rows.saturating_mul(words_of_row(self.columns.truths.len())))
     }
 
-    // Says whether integers are packed from now on.
-    fn set_packing(&mut self, packs: bool)
+    // Says how integers are packed from now on.
+    fn set_packing(&mut self, one_in: usize)
         ensures { self.new ≡ self.old }
     {
-        self.numbers.set_packing(packs);
+        self.numbers.set_packing(one_in);
     }
 
     // Drops all traces.
@@ -320,8 +320,10 @@ impl TraceSet {
         self.row_ends.reserve(1)?;
         self.words.reserve(words_of_row(self.columns.truths.len()))?;
         self.names.push(name)?;
-        self.numbers.push_row(row, self.columns.integers.as_slice());
-        push_words(&mut self.words, row, self.columns.truths.as_slice());
+        let columns = &self.columns;
+        self.numbers
+            .push_row(row, columns.integers.as_slice(), columns.together);
+        push_words(&mut self.words, row, columns.truths.as_slice());
         let rows = self.row_ends[self.row_ends.len() - 1];
         let _ = self.row_ends.push(rows + 1);
         Ok(())
@@ -339,8 +341,10 @@ impl TraceSet {
     {
         self.words.reserve(words_of_row(self.columns.truths.len()))?;
         self.numbers.reserve_next(self.columns.integers.len())?;
-        self.numbers.push_row(row, self.columns.integers.as_slice());
-        push_words(&mut self.words, row, self.columns.truths.as_slice());
+        let columns = &self.columns;
+        self.numbers
+            .push_row(row, columns.integers.as_slice(), columns.together);
+        push_words(&mut self.words, row, columns.truths.as_slice());
         let last = self.row_ends.len() - 1;
         self.row_ends[last] += 1;
         Ok(())
@@ -446,12 +450,13 @@ impl TraceRows {
         self.set.reserve(cells)
     }
 
-    /// Says whether the integers of rows are packed from now on: they then take 16 bits each where
-    /// most of them fit, and else 32 bits, as at first.
-    pub fn set_packing(&mut self, packs: bool)
+    /// Says that the integers of rows are packed from now on: they take 16 bits each, as long as at
+    /// most one in `one_in` does not fit, some thousands left out; those behind take 32 bits, until
+    /// `clear`. With 0 none is packed, as at first.
+    pub fn set_packing(&mut self, one_in: usize)
         ensures { self.new ≡ self.old }
     {
-        self.set.set_packing(packs);
+        self.set.set_packing(one_in);
     }
 
     /// Drops all traces, and keeps their memory for others.

@@ -1,20 +1,20 @@
--- One integer more in each turn, or all of them at once.
+-- One integer more in each turn, or sixteen.
 use Rattle.std.proofs.Common.{◌++◌, ◌∷◌, [], ℕ, pos, get_or, length, take, ap, sym, ◌∙◌, arith}
 use Rattle.std.proofs.Common.{rules, w32, to_z, of_z, ◌≡◌, ◌+◌, ◌-◌, ◌<◌, drop, is_ok, length-drop}
 use Rattle.std.proofs.Common.{subst, true, vec_len}
 use Rattle.std.proofs.lemmas.Int.{to_z-of_z}
-use Rattle.std.proofs.lemmas.List.{append-nil, append_assoc, map_push, take_more}
+use Rattle.std.proofs.lemmas.List.{append_assoc, map_push, take_more}
 use Rattle.std.proofs.lemmas.List.{get_or_default, length-take-le}
 use mir.Val.{SFits}
 use Rattle.lb_traces.specs.Packed.{numbers_in}
-use Rattle.lb_traces.proofs.SixteenRows.{sixteen-more}
+use Rattle.lb_traces.proofs.SixteenRows.{more-together}
 use Rattle.lb_traces.proofs.numbers.push_numbers.Goals as goal
 
 pub loop-w-init : goal.loop-w-init
 loop-w-init c = record {
-  pushed = sym (append-nil c.args.numbers.now.items);
-  within = omega arith;
-  room = omega (arith, c.requires.room);
+  pushed = c.push_together.ensures.items;
+  within = c.requires.together.within;
+  room = c.push_together.ensures.room;
 }
 
 pub push_reserved-requires : goal.push_reserved-requires
@@ -67,21 +67,21 @@ loop-w-preserved-then-are_neighbours c =
     let long : length cells ≡ 16 =
     ap (λ n. length (take n (drop start row))) count
     ∙ length-take-le 16 (drop start row) (omega (arith, last, length-drop start row)) in
-    let ok : is_ok c.extend_from_slice-then-are_neighbours.result ≡ true =
-    c.extend_from_slice-then-are_neighbours.ensures.succeeds
+    let ok : is_ok c.extend_from_slice.result ≡ true =
+    c.extend_from_slice.ensures.succeeds
     (omega (arith, c.loop-w.invariant.room, c.if-columns-w-ge16.true, long)) in
-    let items : c.extend_from_slice-then-are_neighbours.new.self.items
+    let items : c.extend_from_slice.new.self.items
     ≡ c.loop-w.numbers.items ++ cells =
-    rw ok at c.extend_from_slice-then-are_neighbours.ensures.items in
-    let size : vec_len c.extend_from_slice-then-are_neighbours.new.self
+    rw ok at c.extend_from_slice.ensures.items in
+    let size : vec_len c.extend_from_slice.new.self
     ≡ vec_len c.loop-w.numbers + length cells =
-    rw ok at c.extend_from_slice-then-are_neighbours.ensures.len in
+    rw ok at c.extend_from_slice.ensures.len in
     record {
       pushed =
           items ∙ ap (λ xs. xs ++ cells) c.loop-w.invariant.pushed
           ∙ append_assoc old (numbers_in row (take w columns)) cells
           ∙ ap (λ n. old ++ (numbers_in row (take w columns) ++ take n (drop start row))) count
-          ∙ ap (λ xs. old ++ xs) (sym (sixteen-more row columns w
+          ∙ ap (λ xs. old ++ xs) (sym (more-together row columns w 16
           (omega (arith, c.if-columns-w-ge16.true)) near (omega (arith, last))));
       within = omega (arith, c.if-columns-w-ge16.true);
       room =
@@ -89,7 +89,7 @@ loop-w-preserved-then-are_neighbours c =
             arith,
             c.loop-w.invariant.room,
             c.if-columns-w-ge16.true,
-            c.extend_from_slice-then-are_neighbours.ensures.capacity,
+            c.extend_from_slice.ensures.capacity,
             size,
             long,
           );

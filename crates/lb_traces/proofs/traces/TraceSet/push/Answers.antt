@@ -5,12 +5,12 @@ use Rattle.lb_traces.specs.Ledger.{last_place}
 use Rattle.lb_traces.specs.Packed.{cells_of, numbers_in, HasPushed}
 use Rattle.lb_traces.proofs.Ledgers.{read_last}
 use Rattle.lb_traces.proofs.Storing.{rows_fit_of}
-use Rattle.lb_traces.proofs.AddedRows.{Changed, set_pushed, integers_in, truths_in, alone_in}
+use Rattle.lb_traces.proofs.AddedRows.{Changed, set_pushed, integers_in, truths_in}
 use Rattle.lb_traces.proofs.SixteenRows.{ints-of}
 use Rattle.lb_traces.proofs.IntegerCounts.{integers-limit}
 use Rattle.lb_traces.proofs.traces.TraceSet.push.Goals as goal
 
-rows_are : (c : goal.After-self-1) → c.index_mut.result.now
+rows_are : (c : goal.After-self-3-1) → c.index_mut.result.now
     ≡ last_place c.self.inside.row_ends.items
 rows_are c = read_last c.self.inside.row_ends.items c.len-last.result c.index_mut.result.now
     c.self.invariant.parts.rows.ledger (search rules) c.index_mut.ensures.value
@@ -29,12 +29,12 @@ overflow_add-index_mut c =
           c.self.view_is c.self.invariant.parts c.requires.room,
     )
 
-at_end : (c : goal.After-self-1) → (c.len-last.result - 1) + 1 ≡ length c.self.inside.row_ends.items
+at_end : (c : goal.After-self-3-1) → (c.len-last.result - 1) + 1 ≡ length c.self.inside.row_ends.items
 at_end c =
     let count : c.len-last.result ≡ length c.self.inside.row_ends.items = search rules in
     omega (arith, c.self.invariant.parts.rows.ledger.not_empty)
 
-numbers_are : (c : goal.After-self-1) → c.push_row.new.self.items
+numbers_are : (c : goal.After-self-3-1) → c.push_row.new.self.items
     ≡ c.self.inside.numbers.items ++ numbers_in c.args.row.now c.self.inside.columns.integers.items
 numbers_are c =
     c.push_row.ensures
@@ -56,15 +56,9 @@ push_row-requires-clause-columns c =
     c.self.inside.columns.places.items
     c.args.row.now c.self.view_is c.self.invariant c.requires.row)
 
-pub push_row-requires-clause-alone : goal.push_row-requires-clause-alone
-push_row-requires-clause-alone c =
-    rw c.as_slice.ensures.value
-    (alone_in c.args.self.now c.self.inside.signature c.self.inside.names
-    c.self.inside.numbers.items c.self.inside.words.items
-    c.self.inside.row_ends.items c.self.inside.columns.integers.items
-    c.self.inside.columns.truths.items
-    c.self.inside.columns.places.items
-    c.args.row.now c.self.view_is c.self.invariant c.requires.row)
+pub push_row-requires-clause-together : goal.push_row-requires-clause-together
+push_row-requires-clause-together c =
+    rw c.as_slice.ensures.value c.self.inside.columns.side_by_side
 
 pub push_words-requires-clause-room : goal.push_words-requires-clause-room
 push_words-requires-clause-room c =
@@ -85,7 +79,7 @@ push_words-requires-clause-columns c =
     c.self.inside.columns.places.items
     c.args.row.now c.self.view_is c.self.invariant c.requires.row)
 
-words_are : (c : goal.After-self-1) → HasPushed c.self.inside.words.items c.args.row.now
+words_are : (c : goal.After-self-3-1) → HasPushed c.self.inside.words.items c.args.row.now
     c.self.inside.columns.truths.items c.push_words.new.words.items
 words_are c =
     subst
@@ -95,7 +89,7 @@ words_are c =
     (rw (← c.as_slice-2.ensures.value) c.push_words.ensures)
 
 changed :
-    (c : goal.After-self-1) →
+    (c : goal.After-self-3-1) →
     Changed c.self.inside.signature c.self.inside.names
     (c.self.inside.numbers.items
     ++ numbers_in c.args.row.now c.self.inside.columns.integers.items)

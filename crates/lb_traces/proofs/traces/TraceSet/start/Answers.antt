@@ -9,7 +9,7 @@ use Rattle.lb_traces.proofs.Ledgers.{read_last}
 use Rattle.lb_traces.proofs.StoredRows.{length-stored}
 use Rattle.lb_traces.proofs.Storing.{rows_fit_of}
 use Rattle.lb_traces.proofs.AddedRows.{Changed, as_it_is, changed_by, set_started}
-use Rattle.lb_traces.proofs.AddedRows.{integers_in, truths_in, alone_in}
+use Rattle.lb_traces.proofs.AddedRows.{integers_in, truths_in}
 use Rattle.lb_traces.proofs.SixteenRows.{ints-of}
 use Rattle.lb_traces.proofs.IntegerCounts.{integers-limit}
 use Rattle.lb_traces.proofs.traces.TraceSet.start.Goals as goal
@@ -90,15 +90,9 @@ push_row-requires-clause-columns c =
     c.self.inside.columns.places.items
     c.args.row.now c.self.view_is c.self.invariant c.requires.row)
 
-pub push_row-requires-clause-alone : goal.push_row-requires-clause-alone
-push_row-requires-clause-alone c =
-    rw c.as_slice.ensures.value
-    (alone_in c.args.self.now c.self.inside.signature c.self.inside.names
-    c.self.inside.numbers.items c.self.inside.words.items
-    c.self.inside.row_ends.items c.self.inside.columns.integers.items
-    c.self.inside.columns.truths.items
-    c.self.inside.columns.places.items
-    c.args.row.now c.self.view_is c.self.invariant c.requires.row)
+pub push_row-requires-clause-together : goal.push_row-requires-clause-together
+push_row-requires-clause-together c =
+    rw c.as_slice.ensures.value c.self.inside.columns.side_by_side
 
 pub push_words-requires-clause-room : goal.push_words-requires-clause-room
 push_words-requires-clause-room c =
