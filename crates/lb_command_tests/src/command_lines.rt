@@ -1,6 +1,7 @@
 //! Runs of command lines on inputs, and the comparison of what is printed with what is wanted.
 
 use lb_command::command;
+use lb_test_support::texts::is_same;
 use std::alloc::{AllocError, Global};
 use std::fs::Files;
 use std::os::unix::fs::FileExt;
@@ -98,11 +99,6 @@ where
     let mut said = String::new(rt.alloc());
     Run::on(rt, line, input)?.push_apart(&mut said)?;
     Ok(said)
-}
-
-/// Whether two texts are the same.
-pub fn is_same(one: &str, other: &str) -> bool {
-    one == other
 }
 
 /// Fails a test unless `said` is `wanted`. The failure shows `said`.

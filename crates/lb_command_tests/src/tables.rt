@@ -4,11 +4,13 @@
 //! wanted answer. The input `as above` is that of the row above. `{3 a}` in a row stands for `aaa`,
 //! and `{1..2 x@ @, }` for `x1 1, x2 2, `.
 
-use crate::command_lines::{Run, expect, is_same};
+use crate::command_lines::{Run, expect};
 use crate::{
     commands, controllers, formats, helps, mistakes, program_helps, programs, random_values,
     reasons, shown, texts, trace_mistakes,
 };
+use lb_test_support::rows::write_out;
+use lb_test_support::texts::{Said, is_same};
 use std::alloc::AllocError;
 use std::fs::Files;
 use std::os::unix::fs::FileExt;
@@ -54,62 +56,6 @@ const RANDOM_VALUES: Table = (Asks::Prints, "\n=>\n", random_values::RANDOM_VALU
 const REASONS: Table = (Asks::Prints, "\n=>\n", reasons::REASONS);
 
 const CONTROLLERS: Table = (Asks::Prints, "\n=>\n", controllers::CONTROLLERS);
-
-/// The text `turn` with a number in place of each `@`.
-fn push_numbered(row: &mut String, number: u32, turn: &str) -> Result<(), AllocError> {
-    let mut pieces = turn.split('@');
-    row.push_str(pieces.next().unwrap_or(""))?;
-    for piece in pieces {
-        write!(row, "{number}{piece}")?;
-    }
-    Ok(())
-}
-
-/// The text `turn` once for each number from `first` up to `end`, with the number for each `@`.
-fn push_turns(row: &mut String, first: u32, end: u32, turn: &str) -> Result<(), AllocError> {
-    let has_number = turn.split_once('@').is_some();
-    for number in first..end {
-        if has_number {
-            push_numbered(row, number, turn)?;
-        } else {
-            row.push_str(turn)?;
-        }
-    }
-    Ok(())
-}
-
-/// The first number and the end of a range: 0 and 3 for `3`, 1 and 4 for `1..3`.
-fn numbers(text: &str) -> Option<(u32, u32)> {
-    let (first, last) = match text.split_once("..") {
-        Some((first, last)) => (first, last),
-        None => return Some((0, text.parse::<u32>().ok()?)),
-    };
-    let last = last.parse::<u32>().ok()?;
-    Some((first.parse::<u32>().ok()?, last.saturating_add(1)))
-}
-
-/// The parts of `3 a@}` and a rest: the range of `3`, the turn `a@`, and the rest.
-fn repeated(piece: &str) -> Option<((u32, u32), &str, &str)> {
-    let (repeated, rest) = piece.split_once('}')?;
-    let (count, turn) = repeated.split_once(' ')?;
-    Some((numbers(count)?, turn, rest))
-}
-
-/// Writes `short` to `row` with all turns written out. Returns whether each brace has a number of
-/// turns.
-fn write_out(row: &mut String, short: &str) -> Result<bool, AllocError> {
-    let mut pieces = short.split('{');
-    row.clear();
-    row.push_str(pieces.next().unwrap_or(""))?;
-    for piece in pieces {
-        let Some(((first, end), turn, rest)) = repeated(piece) else {
-            return Ok(false);
-        };
-        push_turns(row, first, end, turn)?;
-        row.push_str(rest)?;
-    }
-    Ok(true)
-}
 
 /// The answer of a run of a command line on an input.
 fn push_answer<R: Files + AllocGlobal + Threads + Wait + Clock + Sync>(
@@ -161,7 +107,7 @@ where
 fn is_answered<R: Files + AllocGlobal + Threads + Wait + Clock + Sync>(
     rt: &R,
     table: Table,
-    row: &mut String,
+    row: &mut Said,
     said: &mut String,
 ) -> Result<bool, AllocError>
 where
@@ -170,7 +116,7 @@ where
     let (_, _, rows) = table;
     let mut input = String::new(rt.alloc());
     for short in rows.split("\n----\n") {
-        if !write_out(row, short)? || !is_right(rt, table, row.as_str(), &mut input, said)? {
+        if !write_out(row, short) || !is_right(rt, table, row.whole()?, &mut input, said)? {
             return Ok(false);
         }
     }
@@ -185,12 +131,12 @@ fn first_wrong<R: Files + AllocGlobal + Threads + Wait + Clock + Sync>(
 where
     R::File: FileExt + Sync + Send,
 {
-    let mut row = String::new(rt.alloc());
+    let mut row = Said::new(rt.alloc());
     let mut said = String::new(rt.alloc());
     if is_answered(rt, table, &mut row, &mut said)? {
         return Ok(String::new(rt.alloc()));
     }
-    format!(in rt.alloc(); "{row}, and not: {said}")
+    format!(in rt.alloc(); "{}, and not: {said}", row.as_str())
 }
 
 #[test]
