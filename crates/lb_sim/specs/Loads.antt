@@ -15,10 +15,6 @@ one_of_four first a b c d i =
     if i == first + 3 then d
     else if i == first + 2 then c else if i == first + 1 then b else a
 
--- row number `k` of four
-abbrev pub row_of : List ℤ → List ℤ → List ℤ → List ℤ → ℕ → List ℤ
-row_of a b c d k = if k == 0 then a else if k == 1 then b else if k == 2 then c else d
-
 -- the integer in lane `i`, where the integers at place `w` of four rows stand side by side from
 -- lane `first` on
 abbrev pub four_at : ℕ → List ℤ → List ℤ → List ℤ → List ℤ → ℕ → ℕ → ℤ

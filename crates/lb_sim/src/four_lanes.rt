@@ -8,9 +8,9 @@
 //! ```
 
 ghost use Rattle.std.specs.Prelude.{◌≡◌, ◌≢◌, ℕ, ℤ, List, ◌<◌, ◌≤◌, ◌+◌, ◌*◌, ◌⊎◌, length, [], All};
-ghost use Rattle.std.specs.Prelude.{slice_index, slice_index_or};
+ghost use Rattle.std.specs.Prelude.{slice_index, slice_index_or, get_or, pos};
 ghost use Rattle.lb_lanes.specs.Kernels.{lane_of};
-ghost use Rattle.lb_sim.specs.Loads.{four_at, one_of_four, row_of};
+ghost use Rattle.lb_sim.specs.Loads.{four_at, one_of_four};
 
 use lb_lanes::LaneWord;
 use lb_traces::NumberRow;
@@ -29,95 +29,88 @@ fn set_four(word: &mut LaneWord, first: u32, a: i32, b: i32, c: i32, d: i32)
     word.set(first + 3, d);
 }
 
-/// Four rows of integers, whatever way they are held.
-trait FourRows {
-    /// The integers of a row, by its number: 0 to 3.
-    ghost integers: { Self → ℕ → List ℤ };
+/// A row of integers, whatever way it is held.
+trait IntegerRow {
+    /// The integers of the row.
+    ghost integers: { Self → List ℤ };
 
-    // Puts the integers at a place of the rows into four lanes of a word that lie side by side.
-    fn put(&self, word: &mut LaneWord, first: u32, w: usize)
-        requires lanes { first + 4 ≤ 64 }
-        requires place { (k : ℕ) → k < 4 → w < length (integers self.now k) }
-        ensures put { (i : ℕ) → first ≤ i → i < first + 4
-            → lane_of word.new i ≡ four_at first (integers self.now 0) (integers self.now 1)
-            (integers self.now 2) (integers self.now 3) w i }
-        ensures others { (i : ℕ) → i < 64 → (i < first) ⊎ (first + 4 ≤ i)
-            → lane_of word.new i ≡ lane_of word.old i };
+    // The integer at a place.
+    fn at(&self, w: usize) -> i32
+        requires { w < length (integers self.now) }
+        ensures { result ≡ get_or (integers self.now) w (pos 0) };
 }
 
-/// Rows of 32 bits an integer.
-#[derive(Drop)]
-struct WideRows<'a> {
-    a: &'a [i32],
-    b: &'a [i32],
-    c: &'a [i32],
-    d: &'a [i32],
-}
-
-impl FourRows for WideRows<'_> {
-    ghost integers = { λ s k. row_of s.a.now s.b.now s.c.now s.d.now k };
+impl IntegerRow for &[i32] {
+    ghost integers = { λ row. row.now };
 
     #[inline(always)]
-    fn put(&self, word: &mut LaneWord, first: u32, w: usize) {
-        set_four(word, first, self.a[w], self.b[w], self.c[w], self.d[w]);
+    fn at(&self, w: usize) -> i32 {
+        self[w]
     }
 }
 
-/// Rows of 16 bits an integer.
-#[derive(Drop)]
-struct NarrowRows<'a> {
-    a: &'a [i16],
-    b: &'a [i16],
-    c: &'a [i16],
-    d: &'a [i16],
-}
-
-impl FourRows for NarrowRows<'_> {
-    ghost integers = { λ s k. row_of s.a.now s.b.now s.c.now s.d.now k };
+impl IntegerRow for &[i16] {
+    ghost integers = { λ row. row.now };
 
     #[inline(always)]
-    fn put(&self, word: &mut LaneWord, first: u32, w: usize) {
-        let (a, b) = (i32::from(self.a[w]), i32::from(self.b[w]));
-        let (c, d) = (i32::from(self.c[w]), i32::from(self.d[w]));
-        set_four(word, first, a, b, c, d);
+    fn at(&self, w: usize) -> i32 {
+        i32::from(self[w])
     }
 }
 
-/// Rows of which some integers stand elsewhere.
-#[derive(Drop)]
-struct AnyRows<'a, 'b> {
-    a: &'b NumberRow<'a>,
-    b: &'b NumberRow<'a>,
-    c: &'b NumberRow<'a>,
-    d: &'b NumberRow<'a>,
+impl IntegerRow for NumberRow<'_> {
+    ghost integers = { λ row. row };
+
+    #[inline(always)]
+    fn at(&self, w: usize) -> i32 {
+        self.get(w)
+    }
 }
 
-impl FourRows for AnyRows<'_, '_> {
-    ghost integers = { λ s k. row_of s.a.now s.b.now s.c.now s.d.now k };
-
-    fn put(&self, word: &mut LaneWord, first: u32, w: usize) {
-        let (a, b) = (self.a.get(w), self.b.get(w));
-        let (c, d) = (self.c.get(w), self.d.get(w));
-        set_four(word, first, a, b, c, d);
-    }
+// Puts the integers of four rows at a place into four lanes of a word that lie side by side.
+#[inline(always)]
+fn set_four_of<R: IntegerRow>(word: &mut LaneWord, first: u32, a: &R, b: &R, c: &R, d: &R, w: usize)
+    requires lanes { first + 4 ≤ 64 }
+    requires row_a { w < length (R.integers a.now) }
+    requires row_b { w < length (R.integers b.now) }
+    requires row_c { w < length (R.integers c.now) }
+    requires row_d { w < length (R.integers d.now) }
+    ensures put { (i : ℕ) → first ≤ i → i < first + 4
+        → lane_of word.new i ≡ four_at first (R.integers a.now) (R.integers b.now)
+        (R.integers c.now) (R.integers d.now) w i }
+    ensures others { (i : ℕ) → i < 64 → (i < first) ⊎ (first + 4 ≤ i)
+        → lane_of word.new i ≡ lane_of word.old i }
+{
+    set_four(word, first, a.at(w), b.at(w), c.at(w), d.at(w));
 }
 
 // Puts the integers of four rows at `places` into four lanes of the words at these places.
-fn put_rows<F: FourRows>(words: &mut [LaneWord], first: u32, rows: &F, places: &[usize])
+fn put_rows<R: IntegerRow>(
+    words: &mut [LaneWord],
+    first: u32,
+    a: &R,
+    b: &R,
+    c: &R,
+    d: &R,
+    places: &[usize],
+)
     requires lanes { first + 4 ≤ 64 }
-    requires rows { (k : ℕ) → k < 4 → length (F.integers rows.now k) ≡ length words.old }
+    requires row_a { length (R.integers a.now) ≡ length words.old }
+    requires row_b { length (R.integers b.now) ≡ length words.old }
+    requires row_c { length (R.integers c.now) ≡ length words.old }
+    requires row_d { length (R.integers d.now) ≡ length words.old }
     requires within { All (λ w. w < length words.old) places.now }
     ensures words { length words.new ≡ length words.old }
     ensures put { (k i : ℕ) → k < length places.now → first ≤ i → i < first + 4
         → lane_of (slice_index_or words.new (slice_index places.now k) []) i
-        ≡ four_at first (F.integers rows.now 0) (F.integers rows.now 1) (F.integers rows.now 2)
-        (F.integers rows.now 3) (slice_index places.now k) i }
+        ≡ four_at first (R.integers a.now) (R.integers b.now) (R.integers c.now)
+        (R.integers d.now) (slice_index places.now k) i }
     ensures others { (w i : ℕ) → i < 64 → (i < first) ⊎ (first + 4 ≤ i)
         → lane_of (slice_index_or words.new w []) i ≡ lane_of (slice_index_or words.old w []) i }
 {
     for k in 0..places.len() {
         let w = places[k];
-        rows.put(&mut words[w], first, w);
+        set_four_of(&mut words[w], first, a, b, c, d, w);
     }
 }
 
@@ -146,34 +139,40 @@ pub(crate) fn put_four(
         → lane_of (slice_index_or words.new w []) i ≡ lane_of (slice_index_or words.old w []) i }
 {
     if let (Some(a), Some(b), Some(c), Some(d)) = (a.wide(), b.wide(), c.wide(), d.wide()) {
-        put_rows(words, first, &WideRows { a, b, c, d }, places);
+        put_rows(words, first, &a, &b, &c, &d, places);
         return;
     }
     if let (Some(a), Some(b), Some(c), Some(d)) = (a.narrow(), b.narrow(), c.narrow(), d.narrow()) {
-        put_rows(words, first, &NarrowRows { a, b, c, d }, places);
+        put_rows(words, first, &a, &b, &c, &d, places);
         return;
     }
-    put_rows(words, first, &AnyRows { a, b, c, d }, places);
+    put_rows(words, first, a, b, c, d, places);
 }
 
 // Puts the integers of four rows at `places` into four lanes of the words of an instant. Each place
 // has words for 64 instants, and one more word.
-fn put_rows_ahead<F: FourRows>(
+fn put_rows_ahead<R: IntegerRow>(
     room: &mut [LaneWord],
     instant: usize,
     first: u32,
-    rows: &F,
+    a: &R,
+    b: &R,
+    c: &R,
+    d: &R,
     places: &[usize],
 )
     requires instant { instant < 64 }
     requires lanes { first + 4 ≤ 64 }
     requires room { 65 * length places.now ≤ length room.old }
-    requires rows { (k : ℕ) → k < 4 → All (λ w. w < length (F.integers rows.now k)) places.now }
+    requires row_a { All (λ w. w < length (R.integers a.now)) places.now }
+    requires row_b { length (R.integers b.now) ≡ length (R.integers a.now) }
+    requires row_c { length (R.integers c.now) ≡ length (R.integers a.now) }
+    requires row_d { length (R.integers d.now) ≡ length (R.integers a.now) }
     ensures room { length room.new ≡ length room.old }
     ensures put { (k i : ℕ) → k < length places.now → first ≤ i → i < first + 4
         → lane_of (slice_index_or room.new (65 * k + instant) []) i
-        ≡ four_at first (F.integers rows.now 0) (F.integers rows.now 1) (F.integers rows.now 2)
-        (F.integers rows.now 3) (slice_index places.now k) i }
+        ≡ four_at first (R.integers a.now) (R.integers b.now) (R.integers c.now)
+        (R.integers d.now) (slice_index places.now k) i }
     ensures others { (k e i : ℕ) → e < 64 → i < 64
         → (e ≢ instant) ⊎ ((i < first) ⊎ (first + 4 ≤ i))
         → lane_of (slice_index_or room.new (65 * k + e) []) i
@@ -181,7 +180,7 @@ fn put_rows_ahead<F: FourRows>(
 {
     for k in 0..places.len() {
         let w = places[k];
-        rows.put(&mut room[65 * k + instant], first, w);
+        set_four_of(&mut room[65 * k + instant], first, a, b, c, d, w);
     }
 }
 
@@ -214,12 +213,12 @@ pub(crate) fn put_four_ahead(
         ≡ lane_of (slice_index_or room.old (65 * k + e) []) i }
 {
     if let (Some(a), Some(b), Some(c), Some(d)) = (a.wide(), b.wide(), c.wide(), d.wide()) {
-        put_rows_ahead(room, instant, first, &WideRows { a, b, c, d }, places);
+        put_rows_ahead(room, instant, first, &a, &b, &c, &d, places);
         return;
     }
     if let (Some(a), Some(b), Some(c), Some(d)) = (a.narrow(), b.narrow(), c.narrow(), d.narrow()) {
-        put_rows_ahead(room, instant, first, &NarrowRows { a, b, c, d }, places);
+        put_rows_ahead(room, instant, first, &a, &b, &c, &d, places);
         return;
     }
-    put_rows_ahead(room, instant, first, &AnyRows { a, b, c, d }, places);
+    put_rows_ahead(room, instant, first, a, b, c, d, places);
 }

@@ -4,5 +4,6 @@ use Rattle.lb_sim.proofs.four_lanes.put_rows_ahead.Given as goal
 
 abbrev pub invariant-loop-k : goal.invariant-loop-k
 invariant-loop-k g l =
-    FourAhead l.first l.instant (λ i w. four_at l.first (g.F.FourRows.integers l.rows 0) (g.F.FourRows.integers l.rows 1)
-    (g.F.FourRows.integers l.rows 2) (g.F.FourRows.integers l.rows 3) w i) l.places l.fn.room l.room l.k
+    let row = g.R.IntegerRow.integers in
+    FourAhead l.first l.instant (λ i w. four_at l.first (row l.a) (row l.b) (row l.c) (row l.d) w i)
+    l.places l.fn.room l.room l.k
