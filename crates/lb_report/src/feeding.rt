@@ -107,15 +107,15 @@ const RARE: usize = 256;
 /// How many instants a long trace has, where it is asked whether a roomy round has enough.
 const LONG_TRACE: usize = 1024;
 
-// How many instants a round has at least for each instant of its longest trace, so that lanes are
-// seldom idle. At the end of a round they are; and the more planes and words a program has, the
-// longer an instant takes.
+// How many times as many instants as its longest trace a round needs: 100 for a program of 400
+// planes and words. Lanes are idle at the end of a round, and that costs the more the larger the
+// program is.
 fn turns_of(lanes: &LaneProgram<'_>) -> usize {
     (lanes.planes as usize + lanes.words as usize) / 4
 }
 
-// As long as at most one integer in how many does not fit 16 bits the rows of a round are packed;
-// 0 where a round has enough instants without it.
+// How rare integers beyond 16 bits have to be for rows to be packed: 256 stands for at most one in
+// 256. 0 says that rows are not packed, since a round has enough instants as it is.
 fn packing_of(signature: &Signature, turns: usize, sizes: Sizes) -> usize {
     if sizes.round < ROOMY {
         return FEW;

@@ -276,9 +276,9 @@ impl Rounds<'_, '_> {
             || self.is_enough(set)
     }
 
-    // Whether the traces of a round are so many that few lanes are idle at its end, where one
-    // worker runs it. More rows would only take more memory, and each page costs time when it is
-    // touched for the first time.
+    // Whether a round of one worker has enough instants for its longest trace. With `turns` 100 and
+    // a longest trace of 900 instants that is 90,000: lanes are idle only near the end of the round.
+    // More rows would take more memory, and the first touch of each page takes time.
     fn is_enough(&self, set: &TraceSet) -> bool {
         if self.workers > 1 || set.bytes() < LEAST_ROUND {
             return false;
