@@ -97,12 +97,7 @@ integers_in old elements names numbers words ends integers truths places row vie
     let long : length row ≡ length elements =
     length-row elements row (subst (λ (r : Recording). IsRow r.signature row) (sym view) follows) in
     subst (λ l. All (λ j. j < length row) l) (sym is.columns.integers_are)
-    (λ k d h. omega (
-      arith,
-      numbers_within (kinds_of elements) k d h,
-      long,
-      length-kinds elements,
-    ))
+    (λ k d h. omega (arith, numbers_within (kinds_of elements) k d h, long, length-kinds elements))
 
 pub truths_in :
     (old : Recording) (elements : Elements) (names : List (List ℕ)) (numbers : List ℤ)
@@ -114,12 +109,7 @@ truths_in old elements names numbers words ends integers truths places row view 
     let long : length row ≡ length elements =
     length-row elements row (subst (λ (r : Recording). IsRow r.signature row) (sym view) follows) in
     subst (λ l. All (λ j. j < length row) l) (sym is.columns.truths_are)
-    (λ k d h. omega (
-      arith,
-      truths_within (kinds_of elements) k d h,
-      long,
-      length-kinds elements,
-    ))
+    (λ k d h. omega (arith, truths_within (kinds_of elements) k d h, long, length-kinds elements))
 
 -- a set after a change
 pub record Changed (elements : Elements) (names : List (List ℕ)) (numbers : List ℤ)
@@ -365,9 +355,7 @@ cells_further kinds numbers words rows old f first is (suc n) each =
     ∙ map-range_with_len_more f first n (first + n) refl in
     ap (cells_held kinds numbers words) next
     ∙ ap₂ (λ a b. a ++ b)
-    (cells_further kinds numbers words rows old f first is n
-    (λ j l. each j (omega (arith, l))))
-    (each n (omega arith))
+    (cells_further _ _ _ _ _ _ _ is n (λ j l. each j (omega (arith, l)))) (each n (omega arith))
     ∙ append_assoc old (joined before) (f (first + n))
     ∙ ap (λ l. old ++ l) (sym (joined_push before (f (first + n))))
     ∙ ap (λ rs. old ++ joined rs) (sym more)
@@ -422,10 +410,7 @@ module _ (old : Recording) (elements : Elements) (names : List (List ℕ)) (numb
   row_taken : (j : ℕ) → j < n →
       nth_row kinds more more_words j ≡ nth_row kinds from from_words (first + j)
   row_taken j l =
-      same_held kinds (drop (j * numbers_of kinds) more)
-      (drop ((first + j) * numbers_of kinds) from) (drop (j * words_of kinds) more_words)
-      (drop ((first + j) * words_of kinds) from_words)
-      (λ p lp. taken_at from (numbers_of kinds) first n j p (pos 0) l lp)
+      same_held _ _ _ _ _ (λ p lp. taken_at from (numbers_of kinds) first n j p (pos 0) l lp)
       (λ g lg. taken_at from_words (words_of kinds) first n j g 0 l lg)
 
   filled : AreFilled kinds (last_place ends + n) (numbers ++ more) (words ++ more_words)
@@ -463,12 +448,11 @@ module _ (old : Recording) (elements : Elements) (names : List (List ℕ)) (numb
       let cells = cells_of elements numbers words ends in
       let ends' = set ends last (last_place ends + n) in
       let last_is : last_place ends' ≡ last_place ends + n =
-      last_place-set ends last (last_place ends + n) at_end in
+      last_place-set _ _ _ at_end in
       let all : cells_held kinds (numbers ++ more) (words ++ more_words) (last_place ends')
       ≡ cells ++ joined given =
       ap (cells_held kinds (numbers ++ more) (words ++ more_words)) last_is ∙ cells_are in
-      let added = rows_added given old elements names cells ends last view is.parts some follows
-      instants room at_end in
+      let added = rows_added _ _ _ _ _ _ _ view is.parts some follows instants room at_end in
       let same : set ends last (last_place ends + length given) ≡ ends' =
       ap (λ m. set ends last (last_place ends + m)) long in
       record {

@@ -44,7 +44,7 @@ no-integers ((name, Bool_kind) ∷ elements) j all =
 no-integers ((name, Int_kind) ∷ elements) j all =
     cc (All-head (λ (e : Element). e.1 ≡ Bool_kind) _ elements all)
 
-lawful-bit : (b : Bool) → IsCell Bool_kind (truth_cell b)
+pub lawful-bit : (b : Bool) → IsCell Bool_kind (truth_cell b)
 lawful-bit true = inr refl
 lawful-bit false = inl refl
 

@@ -23,7 +23,7 @@ pub rows_fit_for :
     IsStored elements names cells ends → HasRoomFor old n → last_place ends + n ≤ 67108864
 rows_fit_for old elements names cells ends n view is room =
     let count : instants_of (stored_traces (length elements) names cells ends) ≡ last_place ends =
-    instants-stored (length elements) names cells ends is.rows in
+    instants-stored _ _ _ _ is.rows in
     let total : (last_place ends + n) * cells_of_instant elements ≤ 67108864 =
     subst (λ m. (m + n) * cells_of_instant elements ≤ 67108864) count
     (subst (λ (r : Recording). HasRoomFor r n) (sym view) room) in

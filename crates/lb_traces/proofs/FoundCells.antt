@@ -82,11 +82,7 @@ module _ (old : Recording) (elements : Elements) (names : List (List ℕ)) (numb
   same_kinds = ap (λ (r : Recording). kinds_of r.signature) view
 
   named : k < length names
-  named = omega (
-    arith,
-    below,
-    count_of old elements names (cells_of elements numbers words ends) ends view,
-  )
+  named = omega (arith, below, count_of _ _ _ _ _ view)
 
   -- the place at the end of the trace is at most the last place
   pub within_last : place ends (k + 1) ≤ last_place ends
@@ -95,7 +91,7 @@ module _ (old : Recording) (elements : Elements) (names : List (List ℕ)) (numb
 
   pub length_is : length (trace_at old.traces k).1 ≡ place ends (k + 1) - place ends k
   length_is =
-      instants_at old elements names (cells_of elements numbers words ends) ends k view named
+      instants_at _ _ _ _ _ _ view named
 
   pub starts : (from : ℕ) → from ≡ get_or ends k from → from ≡ place ends k
   starts from read = get_or_read ends k from (omega (arith, named, is.parts.rows.paired)) read 0
@@ -184,7 +180,7 @@ module _ (old : Recording) (elements : Elements) (names : List (List ℕ)) (numb
         let wide : length integers ≡ numbers_of kinds = ap length is.columns.integers_are in
         let fit : (from + t) * length integers + length integers
         ≤ last_place ends * length integers =
-        row_within (length integers) (from + t) (last_place ends) row_below in
+        row_within _ _ _ row_below in
         let all : length numbers ≡ last_place ends * length integers =
         is.filled.numbers_long ∙ ap (λ w. last_place ends * w) (sym wide) in
         omega (arith, fit, all)
@@ -197,7 +193,7 @@ module _ (old : Recording) (elements : Elements) (names : List (List ℕ)) (numb
         let count = words_of_row (length truths) in
         let fit : (from + t) * words_of_row (length truths) + words_of_row (length truths)
         ≤ last_place ends * words_of_row (length truths) =
-        row_within (words_of_row (length truths)) (from + t) (last_place ends) row_below in
+        row_within _ _ _ row_below in
         let all : length words ≡ last_place ends * words_of_row (length truths) =
         is.filled.words_long ∙ ap (λ w. last_place ends * w) (sym wide) in
         omega (arith, fit, all)
@@ -212,8 +208,7 @@ module _ (old : Recording) (elements : Elements) (names : List (List ℕ)) (numb
         (get_or (places_from 0 0 (kinds_of elements)) column 0)
     cell_is column l =
         ap (λ row. get_or row column (pos 0)) row_is
-        ∙ cell_of_row kinds (drop ((from + t) * numbers_of kinds) numbers)
-        (drop ((from + t) * words_of kinds) words) column (pos 0) l
+        ∙ cell_of_row _ _ _ _ _ l
 
     -- the integer, and the Boolean, of a column with the number `p` among those of its kind
     number_is :

@@ -91,9 +91,7 @@ module _ (kinds : List Kind) (rows : ℕ) (numbers : List ℤ) (words : List ℕ
   pub row_kept : (r : ℕ) → r < rows →
       nth_row kinds (numbers ++ more) (words ++ more_words) r ≡ nth_row kinds numbers words r
   row_kept r l =
-      same_held kinds (drop (r * numbers_of kinds) (numbers ++ more))
-      (drop (r * numbers_of kinds) numbers) (drop (r * words_of kinds) (words ++ more_words))
-      (drop (r * words_of kinds) words)
+      same_held _ _ _ _ _
       (λ p lp. kept_at numbers more (numbers_of kinds) rows r p (pos 0) h.numbers_long l lp)
       (λ g lg. kept_at words more_words (words_of kinds) rows r g 0 h.words_long l lg)
 
@@ -102,9 +100,7 @@ module _ (kinds : List Kind) (rows : ℕ) (numbers : List ℤ) (words : List ℕ
       nth_row kinds (numbers ++ more) (words ++ more_words) (rows + j)
       ≡ nth_row kinds more more_words j
   row_come j =
-      same_held kinds (drop ((rows + j) * numbers_of kinds) (numbers ++ more))
-      (drop (j * numbers_of kinds) more) (drop ((rows + j) * words_of kinds) (words ++ more_words))
-      (drop (j * words_of kinds) more_words)
+      same_held _ _ _ _ _
       (λ p lp. come_at numbers more (numbers_of kinds) rows j p (pos 0) h.numbers_long)
       (λ g lg. come_at words more_words (words_of kinds) rows j g 0 h.words_long)
 
@@ -186,8 +182,7 @@ module _ (elements : Elements) (row : Row) (follows : IsRow elements row) (words
       same_lists (row_held kinds numbers words) row (long ∙ sym full)
       (λ c d l.
       let below : c < length kinds = omega (arith, l, long) in
-      cell_of_row kinds numbers words c d below
-      ∙ by_kind c below (get_or kinds c Int_kind) refl
+      cell_of_row _ _ _ _ _ below ∙ by_kind c below (get_or kinds c Int_kind) refl
       ∙ get_or_default row c (pos 0) d (omega (arith, below, full)))
 
 -- ## All cells
@@ -249,8 +244,7 @@ cells_more kinds rows numbers more words more_words row h is =
     let none_words : 0 * words_of kinds ≡ 0 = omega arith in
     ap (cells_held kinds (numbers ++ more) (words ++ more_words)) next
     ∙ ap₂ (λ a b. a ++ b)
-    (same_cells kinds (numbers ++ more) numbers (words ++ more_words) words rows
-    (row_kept kinds rows numbers words h more more_words))
+    (same_cells _ _ _ _ _ _ (row_kept kinds rows numbers words h more more_words))
     (ap (nth_row kinds (numbers ++ more) (words ++ more_words)) last
     ∙ row_come kinds rows numbers words h more more_words 0
     ∙ ap₂ (λ a b. row_held kinds (drop a more) (drop b more_words)) none none_words

@@ -26,7 +26,7 @@ module _ (elements : Elements) (names : List (List ℕ)) (numbers : List ℤ)
   total : last_place ends * cells_of_instant elements ≤ 67108864
   total =
       let count : instants_of (stored_traces (length elements) names cells ends) ≡ last_place ends =
-      instants-stored (length elements) names cells ends is.parts.rows in
+      instants-stored _ _ _ _ is.parts.rows in
       subst (λ n. n * cells_of_instant elements ≤ 67108864) count is.parts.lawful.cells
 
   pub integers-limit : length numbers ≤ 67108864

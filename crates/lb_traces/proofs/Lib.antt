@@ -17,3 +17,4 @@ pub mod NarrowLists
 pub mod IntegerCounts
 pub mod RowParts
 pub mod PushedLists
+pub mod HeldParts

@@ -2,23 +2,23 @@
 use Rattle.std.proofs.Common.{ℕ, zero, suc, ◌≡◌, ◌≢◌, ◌+◌, ◌-◌, ◌<◌, ◌≤◌, ◌==◌, true, false}
 use Rattle.std.proofs.Common.{cond, List, [], ◌∷◌, ◌++◌, length, get_or, take, drop, ℤ, pos}
 use Rattle.std.proofs.Common.{refl, sym, ap, ap₂, ◌∙◌, arith, eq-eqb, length-append}
-use Rattle.std.proofs.Common.{length-drop, inl, inr, Ok, Err, ◌<ℤ◌, ◌≤ℤ◌, w16}
+use Rattle.std.proofs.Common.{length-drop, inl, inr, Ok, Err, ◌<ℤ◌, ◌≤ℤ◌}
 use Rattle.std.proofs.lemmas.Bool.{cases_lt, ne_eqb}
 use Rattle.std.proofs.lemmas.List.{get_or_append_left, get_or-append_right, get_or_push}
-use Rattle.std.proofs.lemmas.List.{get_or-take, get_or-drop, get_or_default, length-take-le, same_lists}
+use Rattle.std.proofs.lemmas.List.{get_or-take, get_or-drop, get_or_default, length-take-le}
+use Rattle.std.proofs.lemmas.List.{same_lists}
 use Rattle.std.proofs.lemmas.List.{length_push}
 use Rattle.std.proofs.lemmas.List.Elements.{All-cons}
 use Rattle.std.proofs.lemmas.List.FromFn.{length-map-range_with_len, get_or-map-range_with_len}
 use Rattle.std.specs.List.{All}
 use Rattle.std.specs.Prelude.{negsuc, int_le}
-use Rattle.std.proofs.lemmas.Bool.Decides.{nat_tests}
 use Rattle.std.proofs.lemmas.Int.{ints}
 use Rattle.std.proofs.lemmas.List.{append_assoc, take_more}
 use Rattle.std.proofs.lemmas.List.Sorted.{searched}
 use Rattle.std.specs.List.Sorted.{IsBinarySearchResult}
 use Rattle.std.specs.Ordering.{nat_cmp}
-use mir.Val.{SFits}
-use Rattle.lb_traces.specs.Narrow.{IsTold, value_at, integer_of, integer_at, integers_of, IsNarrow, AreCells}
+use Rattle.lb_traces.specs.Narrow.{value_at, integer_of, integer_at, integers_of, IsNarrow}
+use Rattle.lb_traces.specs.Narrow.{AreCells, Integers}
 
 -- ## What stands elsewhere
 
@@ -117,15 +117,18 @@ told-above v h = grind (arith, ints)
 pub silent-below : (v : ℤ) → v ≤ℤ negsuc 32767 → int_le v (negsuc 32767) ≡ true
 silent-below v h = grind (arith, ints)
 
-pub told-fits : (v : ℤ) → IsTold v → SFits w16 v
-told-fits (pos n) h = record { sfits = grind (arith, nat_tests, h.1) }
-told-fits (negsuc n) h = record { sfits = grind (arith, nat_tests, h.0) }
-
 pub length-integers : (cells : List ℤ) (places : List ℕ) (values : List ℤ) →
     length (integers_of cells places values) ≡ length cells
 unfolding integers_of
 length-integers cells places values =
     length-map-range_with_len (integer_at cells places values) 0 (length cells)
+
+-- integers in memory are as many as their cells
+pub as-many : {r : Integers} {room : ℕ} (cells : List ℤ) (places : List ℕ) (values : List ℤ) →
+    record { items = integers_of cells places values; room = room } ≡ r →
+    length r.items ≡ length cells
+as-many {r} {room} cells places values view =
+    sym (ap (λ (r : Integers). length r.items) view) ∙ length-integers cells places values
 
 pub integers-at : (cells : List ℤ) (places : List ℕ) (values : List ℤ) (i : ℕ) (d : ℤ) →
     i < length cells →
@@ -140,7 +143,7 @@ pub integers-told : (cells : List ℤ) (places : List ℕ) (values : List ℤ) (
     get_or (integers_of cells places values) i (pos 0) ≡ get_or cells i (pos 0)
 unfolding integer_at
 integers-told cells places values i l told =
-    integers-at cells places values i (pos 0) l
+    integers-at _ _ _ _ _ l
     ∙ ap (λ b. cond b (value_at places values i) (get_or cells i (pos 0))) told
 
 -- another cell does not: what stands elsewhere is
@@ -149,7 +152,7 @@ pub integers-elsewhere : (cells : List ℤ) (places : List ℕ) (values : List �
     get_or (integers_of cells places values) i (pos 0) ≡ value_at places values i
 unfolding integer_at
 integers-elsewhere cells places values i l silent =
-    integers-at cells places values i (pos 0) l
+    integers-at _ _ _ _ _ l
     ∙ ap (λ b. cond b (value_at places values i) (get_or cells i (pos 0))) silent
 
 -- no integers
@@ -200,15 +203,13 @@ integers-append cells more places values is =
     (λ i d l.
     elim (cases_lt i (length cells)) [
       | inl before ↦
-          integers-at (cells ++ more) places values i d
-          (omega (arith, l, whole, length-append cells more))
+          integers-at _ _ _ _ _ (omega (arith, l, whole, length-append cells more))
           ∙ ap (λ c. integer_of c (value_at places values i))
           (get_or_append_left cells more (pos 0) i before)
-          ∙ sym (integers-at cells places values i d before)
+          ∙ sym (integers-at _ _ _ _ _ before)
           ∙ sym (get_or_append_left front back d i (omega (arith, before, front_long)))
       | inr past ↦
-          integers-at (cells ++ more) places values i d
-          (omega (arith, l, whole, length-append cells more))
+          integers-at _ _ _ _ _ (omega (arith, l, whole, length-append cells more))
           ∙ ap₂ integer_of (get_or-append_right cells more (length cells) i (pos 0) refl past)
           (value-past cells places values i is past)
           ∙ sym (integers-at more [] [] (i - length cells) d (omega (arith, l, whole, past)))
@@ -232,9 +233,9 @@ pub integers-cell : (cells : List ℤ) (places : List ℕ) (values : List ℤ) (
     IsNarrow cells places values → int_le c (negsuc 32767) ≡ false →
     integers_of (cells ++ c ∷ []) places values ≡ integers_of cells places values ++ c ∷ []
 integers-cell cells places values c is told =
-    integers-append cells (c ∷ []) places values is
-    ∙ ap (λ xs. integers_of cells places values ++ xs)
-    (integers-plain (c ∷ []) (All-cons (λ v. int_le v (negsuc 32767) ≡ false) c [] told (λ k d l. absurd (omega (arith, l)))))
+    integers-append _ _ _ _ is ∙ ap (λ xs. integers_of cells places values ++ xs)
+    (integers-plain (c ∷ []) (All-cons (λ v. int_le v (negsuc 32767) ≡ false) c [] told (λ k d l.
+    absurd (omega (arith, l)))))
 
 -- one more integer that stands elsewhere
 pub integers-other : (cells : List ℤ) (places : List ℕ) (values : List ℤ) (v : ℤ) →
@@ -255,45 +256,20 @@ integers-other cells places values v is =
     (λ i d l.
     elim (cases_lt i n) [
       | inl before ↦
-          integers-at all (places ++ n ∷ []) (values ++ v ∷ []) i d
-          (omega (arith, l, whole, long))
+          integers-at _ _ _ _ _ (omega (arith, l, whole, long))
           ∙ ap₂ integer_of (get_or_append_left cells (negsuc 32767 ∷ []) (pos 0) i before)
           (value-other places values n i v is.paired
           (λ same. absurd (omega (arith, before, same))))
-          ∙ sym (integers-at cells places values i d before)
+          ∙ sym (integers-at _ _ _ _ _ before)
           ∙ sym (get_or_append_left front (v ∷ []) d i (omega (arith, before, front_long)))
       | inr past ↦
           let here : i ≡ n = omega (arith, l, whole, past) in
-          integers-at all (places ++ n ∷ []) (values ++ v ∷ []) i d
-          (omega (arith, l, whole, long))
+          integers-at _ _ _ _ _ (omega (arith, l, whole, long))
           ∙ ap₂ integer_of (get_or_push cells (negsuc 32767) (pos 0) i (sym here))
           (ap (value_at (places ++ n ∷ []) (values ++ v ∷ [])) here
           ∙ value-here places values n v is.paired is.within)
           ∙ sym (get_or_push front v d i (front_long ∙ sym here))
     ])
-
--- a part of integers that all have cells that tell, or are 0
-pub integers-part : (cells values : List ℤ) (start count : ℕ) → start + count ≤ length cells →
-    integers_of (take count (drop start cells)) [] []
-    ≡ take count (drop start (integers_of cells [] values))
-unfolding integer_at
-integers-part cells values start count fits =
-    let part = take count (drop start cells) in
-    let all = integers_of cells [] values in
-    let long : length part ≡ count =
-    length-take-le count (drop start cells) (omega (arith, fits, length-drop start cells)) in
-    let all_long : length all ≡ length cells = length-integers cells [] values in
-    let part_long : length (take count (drop start all)) ≡ count =
-    length-take-le count (drop start all) (omega (arith, fits, length-drop start all, all_long)) in
-    let whole : length (integers_of part [] []) ≡ count = length-integers part [] [] ∙ long in
-    same_lists (integers_of part [] []) (take count (drop start all)) (whole ∙ sym part_long)
-    (λ i d l.
-    let below : i < count = omega (arith, l, whole) in
-    integers-at part [] [] i d (omega (arith, below, long))
-    ∙ ap (λ c. integer_of c (pos 0))
-    (get_or-take count (drop start cells) i (pos 0) below ∙ get_or-drop start cells i (pos 0))
-    ∙ sym (integers-at cells [] values (start + i) d (omega (arith, below, fits)))
-    ∙ sym (get_or-take count (drop start all) i d below ∙ get_or-drop start all i d))
 
 -- the cells of a part tell its integers
 pub cells-are : (cells : List ℤ) (places : List ℕ) (values : List ℤ) (start count : ℕ) →
@@ -311,19 +287,11 @@ cells-are cells places values start count is fits =
           ≡ get_or cells (start + w) (pos 0) =
           get_or-take count (drop start cells) w (pos 0) below ∙ get_or-drop start cells w (pos 0) in
           same
-          ∙ sym (integers-told cells places values (start + w) (omega (arith, below, fits))
+          ∙ sym (integers-told _ _ _ _ (omega (arith, below, fits))
           (ap (λ c. int_le c (negsuc 32767)) (sym same) ∙ told));
     }
 
 -- ## The parts fit one another
-
-pub IsNarrow-none : IsNarrow [] [] []
-IsNarrow-none = record {
-  paired = refl;
-  ascend = λ i j less l. absurd (omega (arith, l));
-  within = λ k l. absurd (omega (arith, l));
-  few = omega arith;
-}
 
 pub IsNarrow-append : (cells more : List ℤ) (places : List ℕ) (values : List ℤ) →
     IsNarrow cells places values → length cells + length more ≤ 4294967296 →

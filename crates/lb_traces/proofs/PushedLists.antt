@@ -1,13 +1,15 @@
 -- Lists to which integers are pushed, as the code leaves them.
 use Rattle.std.proofs.Common.{ℕ, ◌≡◌, ◌+◌, ◌-◌, ◌<◌, ◌≤◌, false, List, [], ◌∷◌, ◌++◌}
 use Rattle.std.proofs.Common.{length, get_or, take, drop, ℤ, pos, negsuc, int_le, sym, ap, ap₂}
-use Rattle.std.proofs.Common.{◌∙◌, subst, arith, ◌≤ℤ◌, ◌≢◌, set, below_more, get_or-set_other, get_or-set_same, w16, w32, to_z, of_z}
+use Rattle.std.proofs.Common.{◌∙◌, subst, arith, ◌≤ℤ◌, ◌≢◌, set, below_more, get_or-set_other}
+use Rattle.std.proofs.Common.{get_or-set_same, w16, w32, to_z, of_z}
 use Rattle.std.proofs.Math.Seq.{take-add}
 use Rattle.std.proofs.lemmas.Int.{ints}
-use Rattle.std.proofs.lemmas.List.{append_assoc, get_or_default, get_or-take, length-take-le, same_lists}
-use Rattle.std.proofs.lemmas.List.{take_more}
+use Rattle.std.proofs.lemmas.List.{append_assoc, get_or_default, get_or-take, length-take-le}
+use Rattle.std.proofs.lemmas.List.{same_lists}
 use Rattle.lb_traces.specs.Narrow.{IsTold, integers_of, IsNarrow}
-use Rattle.lb_traces.proofs.NarrowLists.{integers-append, integers-plain, integers-cell, integers-other}
+use Rattle.lb_traces.proofs.NarrowLists.{integers-append, integers-plain, integers-cell}
+use Rattle.lb_traces.proofs.NarrowLists.{integers-other}
 use Rattle.lb_traces.proofs.NarrowLists.{IsNarrow-other, part-more}
 
 -- an integer that a cell tells lies within 16 bits
@@ -27,18 +29,8 @@ pub cells-set : (cells numbers : List ℤ) (i : ℕ) (x : ℤ) → i < length ce
     x ≡ get_or numbers i (pos 0) → (k : ℕ) → k < i + 1 →
     get_or (set cells i x) k (pos 0) ≡ get_or numbers k (pos 0)
 cells-set cells numbers i x l before here =
-    below_more _ _
-    (λ k h. let ne : k ≢ i = omega arith in rw get_or-set_other (before k h))
+    below_more _ _ (λ k h. let ne : k ≢ i = omega arith in rw get_or-set_other (before k h))
     (rw get_or-set_same here)
-
--- one more of a list
-pub more-pushed : (old all items new : List ℤ) (i : ℕ) (v : ℤ) → items ≡ old ++ take i all →
-    new ≡ items ++ v ∷ [] → v ≡ get_or all i (pos 0) → i < length all →
-    new ≡ old ++ take (i + 1) all
-more-pushed old all items new i v is pushed value l =
-    pushed ∙ ap (λ xs. xs ++ v ∷ []) is ∙ append_assoc old (take i all) (v ∷ [])
-    ∙ ap (λ x. old ++ (take i all ++ x ∷ [])) value
-    ∙ ap (λ xs. old ++ xs) (sym (take_more all i (pos 0) l))
 
 -- `m` more of a list
 pub chunk-pushed : (old all items new : List ℤ) (n m : ℕ) → items ≡ old ++ take n all →
@@ -71,8 +63,7 @@ module _ (cells : List ℤ) (places : List ℕ) (values now : List ℤ)
       integers_of (cells ++ x ∷ []) places values ≡ now ++ number ∷ []
   cell-pushed x number same told =
       ap (λ v. integers_of (cells ++ v ∷ []) places values) same
-      ∙ integers-cell cells places values number is told.0
-      ∙ ap (λ xs. xs ++ number ∷ []) view
+      ∙ integers-cell _ _ _ _ is told.0 ∙ ap (λ xs. xs ++ number ∷ []) view
 
   -- one more integer that stands elsewhere
   pub other-pushed : (x : ℤ) (p : ℕ) (v number : ℤ) → x ≡ negsuc 32767 → p ≡ length cells →
@@ -98,9 +89,7 @@ module _ (cells : List ℤ) (places : List ℕ) (values now : List ℤ)
       integers_of (cells ++ part) places values ≡ now ++ numbers
   cells-pushed part numbers same told =
       ap (λ xs. integers_of (cells ++ xs) places values) same
-      ∙ integers-append cells numbers places values is
-      ∙ ap₂ (λ xs ys. xs ++ ys) view
-      (integers-plain numbers (λ i d l.
+      ∙ integers-append _ _ _ _ is ∙ ap₂ (λ xs ys. xs ++ ys) view (integers-plain numbers (λ i d l.
       subst (λ v. int_le v (negsuc 32767) ≡ false) (get_or_default numbers i (pos 0) d l)
       (told i l).0))
 

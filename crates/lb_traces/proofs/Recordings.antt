@@ -126,7 +126,7 @@ pub IsRecording-row : (elements : Elements) (traces : Traces) (row : Row) →
 IsRecording-row elements traces row lawful started follows instants room =
     let f : Front traces = front_of traces started in
     rw (f.is, with_row-push)
-    (grown elements f.front f.last row (subst (λ ts.
+    (grown _ _ _ _ (subst (λ ts.
     IsRecording record { signature = elements; traces = ts }) f.is lawful) follows
     (rw (f.is, last_rows-push) at instants) (subst
     (λ ts. HasRoom record { signature = elements; traces = ts }) f.is room))

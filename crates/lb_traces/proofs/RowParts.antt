@@ -1,7 +1,7 @@
 -- Parts of a list that is two lists one after the other.
 use Rattle.std.proofs.Common.{ℕ, ◌≡◌, ◌+◌, ◌-◌, ◌<◌, ◌≤◌, List, ◌++◌, length, get_or, take, drop, ℤ}
 use Rattle.std.proofs.Common.{refl, sym, ap, ◌∙◌, arith, length-append, length-drop}
-use Rattle.std.proofs.lemmas.List.{get_or_append_left, get_or-append_right, get_or-take}
+use Rattle.std.proofs.lemmas.List.{get_or-append_right, get_or-take}
 use Rattle.std.proofs.lemmas.List.{get_or-drop, length-take-le, same_lists}
 
 length-part : (xs : List ℤ) (start count : ℕ) → start + count ≤ length xs →
@@ -13,20 +13,6 @@ at-part : (xs : List ℤ) (start count i : ℕ) (d : ℤ) → i < count →
     get_or (take count (drop start xs)) i d ≡ get_or xs (start + i) d
 at-part xs start count i d l =
     get_or-take count (drop start xs) i d l ∙ get_or-drop start xs i d
-
--- a part of the first list
-pub part-front : (xs ys : List ℤ) (start count : ℕ) → start + count ≤ length xs →
-    take count (drop start (xs ++ ys)) ≡ take count (drop start xs)
-part-front xs ys start count fits =
-    let all : start + count ≤ length (xs ++ ys) = omega (arith, fits, length-append xs ys) in
-    let whole = length-part (xs ++ ys) start count all in
-    same_lists (take count (drop start (xs ++ ys))) (take count (drop start xs))
-    (whole ∙ sym (length-part xs start count fits))
-    (λ i d l.
-    let below : i < count = omega (arith, l, whole) in
-    at-part (xs ++ ys) start count i d below
-    ∙ get_or_append_left xs ys d (start + i) (omega (arith, below, fits))
-    ∙ sym (at-part xs start count i d below))
 
 -- a part of the second list
 pub part-back : (xs ys : List ℤ) (start count : ℕ) → length xs ≤ start →

@@ -75,7 +75,8 @@ truth-bit cells i long fits below =
     ∙ ap (λ n. int_le (pos 1) (to_z w32 n)) (get_or-map (of_z w32) front i (pos 0) 0
     (omega (arith, below, size)))
     ∙ ap (λ x. int_le (pos 1) (to_z w32 (of_z w32 x))) (get_or-take 16 cells i (pos 0) below)
-    ∙ ap (int_le (pos 1)) (to_z-of_z w32 (get_or cells i (pos 0)) (fits-from (get_or cells i (pos 0)) fits))
+    ∙ ap (int_le (pos 1)) (to_z-of_z w32 (get_or cells i (pos 0))
+    (fits-from (get_or cells i (pos 0)) fits))
 
 pub truths-small : (cells : List ℤ) → 15 < length cells
     → mask_l (true_lanes cells) % 2 ^ 64 < 65536
@@ -128,7 +129,8 @@ step-at columns first start k room all below =
     let same : eqb (get_or steps k 0) (get_or (range_with_len 0 16) k 0) ≡ true =
     sym (get_or-zip2 eqb steps (range_with_len 0 16) k 0 0 false (omega (arith, below, wide))
     below) ∙ hit in
-    let value : get_or steps k 0 ≡ (get_or columns (first + k) 0 + (4294967296 - start)) % 4294967296 =
+    let value : get_or steps k 0 ≡ (get_or columns (first + k) 0 + (4294967296 - start))
+    % 4294967296 =
     ap (λ l. get_or l k 0) moved
     ∙ get_or-map (λ a. (a + (4294967296 - start)) % 4294967296) some k 0 0
     (omega (arith, below, size))

@@ -112,8 +112,7 @@ packing_sixteen row columns first word bits n h most room near each small = reco
         let few : j - n < 16 = omega (arith, below, high) in
         let place : first + n + (j - n) ≡ first + j = omega (arith, high) in
         ap (λ b. b == 1) (joined j ∙ same) ∙ each (j - n) few
-        ∙ neighbour-truth row columns (first + n) (j - n) room near few
-        ∙ ap (truth_in row columns) place
+        ∙ neighbour-truth _ _ _ _ room near few ∙ ap (truth_in row columns) place
 
 -- ## Integers
 

@@ -167,7 +167,7 @@ stored-trace width names cells ends name row rows full =
     (get_or_push names name [] n refl)
     ∙ ap (λ a. (name, rows_between width more_cells a (place more_ends (n + 1)))) from_is
     ∙ ap (λ b. (name, rows_between width more_cells end b)) to_is
-    ∙ ap (λ x. (name, x)) (rows_between-more width cells row end end (omega arith) rows.all full)
+    ∙ ap (λ x. (name, x)) (rows_between-more _ _ _ _ _ (omega arith) rows.all full)
     ∙ ap (λ m. (name, map (row_of width cells) (range_with_len end m) ++ row ∷ []))
     (let none : end - end ≡ 0 = omega arith in none) in
     ap (λ m. map new (range_with_len 0 m)) (length_push names name)
@@ -180,8 +180,7 @@ stored-trace width names cells ends name row rows full =
     (place-push_before ends (end + 1) k (omega arith))
     ∙ ap (λ b. (get_or names k [], rows_between width more_cells (place ends k) b))
     (place-push_before ends (end + 1) (k + 1) (omega arith))
-    ∙ ap (λ x. (get_or names k [], x)) (rows_between-append width cells row (place ends k)
-    (place ends (k + 1))
+    ∙ ap (λ x. (get_or names k [], x)) (rows_between-append _ _ _ _ _
     (ends_within width names cells ends rows (k + 1) (omega arith)))))
     ∙ ap (λ t. stored_traces width names cells ends ++ t ∷ []) last_is
 

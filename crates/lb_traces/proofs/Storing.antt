@@ -27,7 +27,7 @@ pub rows_fit : (elements : Elements) (names : List (List ℕ)) (cells : List ℤ
     → HasRoom (stored elements names cells ends) → last_place ends + 1 ≤ 67108864
 rows_fit elements names cells ends is room =
     let count : instants_of (stored_traces (length elements) names cells ends) ≡ last_place ends =
-    instants-stored (length elements) names cells ends is.rows in
+    instants-stored _ _ _ _ is.rows in
     let total : (last_place ends + 1) * cells_of_instant elements ≤ 67108864 =
     subst (λ n. (n + 1) * cells_of_instant elements ≤ 67108864) count room in
     let least : (last_place ends + 1) * 1 ≤ (last_place ends + 1) * cells_of_instant elements =
@@ -58,7 +58,7 @@ pub IsStored-trace : (elements : Elements) (names : List (List ℕ)) (cells : Li
 IsStored-trace elements names cells ends name row is named fresh follows count room = record {
   rows = AreRows-trace (length elements) names cells ends name row is.rows
       (length-row elements row follows);
-  lawful = subst IsRecording (sym (stored-with_trace elements names cells ends name row is follows))
+  lawful = subst IsRecording (sym (stored-with_trace _ _ _ _ _ _ is follows))
       (IsRecording-trace (stored elements names cells ends) name row is.lawful named fresh follows
       count room);
 }
@@ -97,7 +97,7 @@ pub rows_fit_of : (old : Recording) (elements : Elements) (names : List (List �
     → stored elements names cells ends ≡ old → IsStored elements names cells ends → HasRoom old →
     last_place ends + 1 ≤ 67108864
 rows_fit_of old elements names cells ends view is room =
-    rows_fit elements names cells ends is (subst HasRoom (sym view) room)
+    rows_fit _ _ _ _ is (subst HasRoom (sym view) room)
 
 pub start_keeps : (old : Recording) (elements : Elements) (names : List (List ℕ)) (cells : List ℤ)
     (ends : List ℕ) (name : List ℕ) (row : Row)
@@ -121,7 +121,7 @@ pub start_adds : (old : Recording) (elements : Elements) (names : List (List ℕ
 start_adds old elements names cells ends name row view is follows =
     let added : Recording → Recording = λ r. record
     { signature = r.signature; traces = with_trace r.traces name row } in
-    stored-with_trace elements names cells ends name row is
+    stored-with_trace _ _ _ _ _ _ is
     (subst (λ (r : Recording). IsRow r.signature row) (sym view) follows) ∙ ap added view
 
 -- a recording that is not empty has a last trace, number `length names - 1`
@@ -142,7 +142,7 @@ pub push_keeps : (old : Recording) (elements : Elements) (names : List (List ℕ
     → IsStored elements names (cells ++ row) (set ends last (last_place ends + 1))
 push_keeps old elements names cells ends row last view is some follows instants room at_end =
     let some_name : length names ≡ (length names - 1) + 1 =
-    last_of old elements names cells ends view some in
+    last_of _ _ _ _ _ view some in
     let is_last : (length names - 1) + 1 ≡ last = omega (arith, is.rows.paired) in
     subst (λ n. IsStored elements names (cells ++ row) (set ends n (last_place ends + 1))) is_last
     (IsStored-row elements names cells ends row (length names - 1) is some_name
@@ -158,12 +158,12 @@ pub push_adds : (old : Recording) (elements : Elements) (names : List (List ℕ)
     ≡ record { signature = old.signature; traces = with_row old.traces row }
 push_adds old elements names cells ends row last view is some follows at_end =
     let some_name : length names ≡ (length names - 1) + 1 =
-    last_of old elements names cells ends view some in
+    last_of _ _ _ _ _ view some in
     let is_last : last ≡ (length names - 1) + 1 = omega (arith, is.rows.paired) in
     let added : Recording → Recording = λ r. record
     { signature = r.signature; traces = with_row r.traces row } in
     ap (λ n. stored elements names (cells ++ row) (set ends n (last_place ends + 1))) is_last
-    ∙ stored-with_row elements names cells ends row (length names - 1) is
+    ∙ stored-with_row _ _ _ _ _ _ is
     (subst (λ (r : Recording). IsRow r.signature row) (sym view) follows) some_name
     ∙ ap added view
 
@@ -182,7 +182,7 @@ pub name_of : (old : Recording) (elements : Elements) (names : List (List ℕ)) 
     (trace_at old.traces k).0 ≡ get_or names k []
 name_of old elements names cells ends k view below =
     ap (λ (r : Recording). (trace_at r.traces k).0) (sym view)
-    ∙ ap (λ (t : Trace). t.0) (trace_at-stored (length elements) names cells ends k below)
+    ∙ ap (λ (t : Trace). t.0) (trace_at-stored _ _ _ _ _ below)
 
 -- the number of instants of trace `k` is the difference of the places around it
 pub instants_at : (old : Recording) (elements : Elements) (names : List (List ℕ)) (cells : List ℤ)
@@ -191,7 +191,7 @@ pub instants_at : (old : Recording) (elements : Elements) (names : List (List �
     length (trace_at old.traces k).1 ≡ place ends (k + 1) - place ends k
 instants_at old elements names cells ends k view below =
     ap (λ (r : Recording). length (trace_at r.traces k).1) (sym view)
-    ∙ ap (λ (t : Trace). length t.1) (trace_at-stored (length elements) names cells ends k below)
+    ∙ ap (λ (t : Trace). length t.1) (trace_at-stored _ _ _ _ _ below)
     ∙ length-rows_between (length elements) cells (place ends k) (place ends (k + 1))
 
 -- the places around a trace, from `from` to `to`: between them are 1 to 1,000,000 rows
@@ -207,14 +207,14 @@ pub parts : (old : Recording) (elements : Elements) (names : List (List ℕ)) (c
     → from ≡ get_or ends k from → to ≡ get_or ends (k + 1) to →
     PartsTrace (length (trace_at old.traces k).1) from to
 parts old elements names cells ends k from to view is below read_from read_to =
-    let count : length old.traces ≡ length names = count_of old elements names cells ends view in
+    let count : length old.traces ≡ length names = count_of _ _ _ _ _ view in
     let paired : length ends ≡ length names + 1 = is.rows.paired in
     let from_is : from ≡ place ends k = get_or_read ends k from (omega arith) read_from 0 in
     let to_is : to ≡ place ends (k + 1) = get_or_read ends (k + 1) to (omega arith) read_to 0 in
     let climb : place ends k < place ends (k + 1) =
     is.rows.ledger.climbs k (k + 1) (omega arith) (omega arith) in
     let long : length (trace_at old.traces k).1 ≡ place ends (k + 1) - place ends k =
-    instants_at old elements names cells ends k view (omega arith) in
+    instants_at _ _ _ _ _ _ view (omega arith) in
     let lawful : IsTrace old.signature (trace_at old.traces k) =
     (subst IsRecording view is.lawful).each k ([], []) below in
     let limit : length (trace_at old.traces k).1 ≤ 1000000 = lawful.instants in

@@ -1,6 +1,7 @@
 -- The layout of integers in memory: 16 bits each, but for those that stand elsewhere.
 -- Source: this project's rule.
-use Rattle.std.specs.Prelude.{ℕ, ◌≡◌, ◌+◌, ◌<◌, ◌≤◌, ◌==◌, cond, false, true, List, [], ◌∷◌, length, map, get_or}
+use Rattle.std.specs.Prelude.{ℕ, ◌≡◌, ◌+◌, ◌<◌, ◌≤◌, ◌==◌, cond, false, true, List, [], ◌∷◌, length}
+use Rattle.std.specs.Prelude.{map, get_or}
 use Rattle.std.specs.Prelude.{ℤ, pos, negsuc, int_le}
 use Rattle.std.specs.List.{range_with_len}
 

@@ -334,6 +334,14 @@ impl Numbers {
         push_numbers(&mut self.tail, row, columns, together);
     }
 
+    /// Adds integers, for which there is room.
+    pub(crate) fn push_all(&mut self, numbers: &[i32])
+        requires { length numbers.now ≤ self.old.room }
+        ensures { self.new.items ≡ self.old.items ++ numbers.now }
+    {
+        let _ = self.tail.extend_from_slice(numbers);
+    }
+
     // Adds the integers of another list from `start` to before `end`, one by one.
     fn extend_each(&mut self, from: &Numbers, start: usize, end: usize) -> Result<(), AllocError>
         requires order { start ≤ end }

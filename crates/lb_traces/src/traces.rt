@@ -12,7 +12,7 @@
 
 ghost use Rattle.std.specs.Prelude.{◌≡◌, ◌≢◌, ◌==◌, ℕ, ◌<◌, ◌≤◌, ◌+◌, ◌*◌, ◌^◌, ◌||◌, ◌↔◌};
 ghost use Rattle.std.specs.Prelude.{IsTrue, false, [], ◌∷◌, ◌++◌, length, get_or, slice_get};
-ghost use Rattle.std.specs.Prelude.{vec_len};
+ghost use Rattle.std.specs.Prelude.{◌-◌, set, take, vec_len};
 ghost use Rattle.std.specs.Prelude.{vec_capacity, Some, IfOk, OnOk, OnErr, pos, int_le, All};
 ghost use Rattle.std.specs.Int.{bit_at};
 ghost use Rattle.std.specs.List.{Contains};
@@ -22,8 +22,9 @@ ghost use Rattle.lb_traces.specs.Traces.{trace_at, cell_at, instants_of, trace_n
 ghost use Rattle.lb_traces.specs.Traces.{IsRow, HasRoom, HasRoomFor, last_rows, with_row};
 ghost use Rattle.lb_traces.specs.Traces.{with_trace, with_rows, rows_from, IsRecording, IsInt};
 ghost use Rattle.lb_traces.specs.Packed.{truth_columns, number_columns, words_of_row, bit_in};
-ghost use Rattle.lb_traces.specs.Packed.{truth_in, numbers_in, HasPushed};
+ghost use Rattle.lb_traces.specs.Packed.{truth_in, numbers_in, numbers_of, row_held, HasPushed};
 ghost use Rattle.lb_traces.specs.BitRows.{AreTruths, row_of_bits};
+ghost use Rattle.lb_traces.specs.Ledger.{IsLedger, last_place};
 
 use crate::names::Names;
 pub use crate::names::is_trace_name;
@@ -140,6 +141,45 @@ fn push_words(words: &mut Vec<u64>, row: &[i32], columns: &[u32])
 {
     for g in 0..words_of_row(columns.len()) {
         words.push_reserved(packed(row, columns, 64 * g));
+    }
+}
+
+// Adds the word of one more row, for which there is room, if the row has Booleans.
+#[inline]
+fn push_word(words: &mut Vec<u64>, columns: &[u32], word: u64)
+    requires { vec_len words.old + 1 ≤ vec_capacity words.old }
+    ensures { words.new.items ≡ words.old.items ++ take (length columns.now) (word ∷ []) }
+{
+    if columns.len() > 0 {
+        words.push_reserved(word);
+    }
+}
+
+// Counts `added` more rows of the last trace.
+#[inline]
+fn count_rows(row_ends: &mut Vec<u32>, added: u32)
+    requires ledger { IsLedger row_ends.old.items }
+    requires room { last_place row_ends.old.items + added ≤ u32.MAX }
+    ensures { row_ends.new.items ≡ set row_ends.old.items (length row_ends.old.items - 1)
+        (last_place row_ends.old.items + added) }
+{
+    let last = row_ends.len() - 1;
+    row_ends[last] += added;
+}
+
+// Tells proofs that a number of 32 bits is an integer.
+#[inline]
+fn is_int(v: i32)
+    ensures { IsInt v }
+{}
+
+// Tells proofs that numbers of 32 bits are integers. Compiled, it has no steps.
+#[inline]
+fn are_ints(numbers: &[i32])
+    ensures { All IsInt numbers.now }
+{
+    for v in numbers {
+        is_int(*v);
     }
 }
 
@@ -345,8 +385,30 @@ impl TraceSet {
         self.numbers
             .push_row(row, columns.integers.as_slice(), columns.together);
         push_words(&mut self.words, row, columns.truths.as_slice());
-        let last = self.row_ends.len() - 1;
-        self.row_ends[last] += 1;
+        count_rows(&mut self.row_ends, 1);
+        Ok(())
+    }
+
+    // Adds one more row to the last trace: its integers, and its Booleans as the bits of a word.
+    fn push_held(&mut self, numbers: &[i32], word: u64) -> Result<(), AllocError>
+        requires started { 0 < length self.old.traces }
+        requires numbers { length numbers.now ≡ numbers_of (kinds_of self.old.signature) }
+        requires truths { length (truth_columns 0 (kinds_of self.old.signature)) ≤ 64 }
+        requires small { word < 2 ^ length (truth_columns 0 (kinds_of self.old.signature)) }
+        requires instants { length (last_rows self.old.traces) < 1000000 }
+        requires room { HasRoom self.old }
+        ensures ok { OnOk result (self.new ≡ record self.old {
+          traces = with_row self.old.traces
+              (row_held (kinds_of self.old.signature) numbers.now (word ∷ []));
+        }) }
+        ensures err { OnErr result (self.new ≡ self.old) }
+    {
+        are_ints(numbers);
+        self.words.reserve(1)?;
+        self.numbers.reserve_next(numbers.len())?;
+        self.numbers.push_all(numbers);
+        push_word(&mut self.words, self.columns.truths.as_slice(), word);
+        count_rows(&mut self.row_ends, 1);
         Ok(())
     }
 
@@ -363,8 +425,7 @@ impl TraceSet {
         ensures err { OnErr result (self.new ≡ self.old) }
     {
         self.words.push(word)?;
-        let last = self.row_ends.len() - 1;
-        self.row_ends[last] += 1;
+        count_rows(&mut self.row_ends, 1);
         Ok(())
     }
 
@@ -392,8 +453,7 @@ impl TraceSet {
         self.numbers
             .extend(&set.numbers, first * width, past * width)?;
         let _ = self.words.extend_from_slice(words);
-        let last = self.row_ends.len() - 1;
-        self.row_ends[last] += added;
+        count_rows(&mut self.row_ends, added);
         Ok(())
     }
 }
@@ -492,6 +552,26 @@ impl TraceRows {
         ensures err { OnErr result (self.new ≡ self.old) }
     {
         self.set.push(row)
+    }
+
+    /// Adds one more row to the last trace, as it lies in memory: its integers, in the order of the
+    /// signature, and its Booleans, at most 64, as the bits of `word`. The first one is the lowest
+    /// bit, and no bit past the last one is set. Where memory is refused the traces stay as they
+    /// were.
+    pub fn push_held(&mut self, numbers: &[i32], word: u64) -> Result<(), AllocError>
+        requires started { 0 < length self.old.traces }
+        requires numbers { length numbers.now ≡ numbers_of (kinds_of self.old.signature) }
+        requires truths { length (truth_columns 0 (kinds_of self.old.signature)) ≤ 64 }
+        requires small { word < 2 ^ length (truth_columns 0 (kinds_of self.old.signature)) }
+        requires instants { length (last_rows self.old.traces) < 1000000 }
+        requires room { HasRoom self.old }
+        ensures ok { OnOk result (self.new ≡ record self.old {
+          traces = with_row self.old.traces
+              (row_held (kinds_of self.old.signature) numbers.now (word ∷ []));
+        }) }
+        ensures err { OnErr result (self.new ≡ self.old) }
+    {
+        self.set.push_held(numbers, word)
     }
 
     /// Adds one more row to the last trace. Its cells are at most 64 Booleans, the bits of `word`:

@@ -11,7 +11,7 @@ loop-i-preserved c =
     omega (arith, c.loop-i-test.true, c.requires.few, c.loop-i.invariant.long) in
     record {
       same =
-          cells-set c.loop-i.cells numbers i _ inside c.loop-i.invariant.same
+          cells-set _ _ _ _ inside c.loop-i.invariant.same
           (told-cast (get_or numbers i (pos 0)) (c.requires.told i c.loop-i-test.true));
       long = length-set c.loop-i.cells i _ ∙ c.loop-i.invariant.long;
     }

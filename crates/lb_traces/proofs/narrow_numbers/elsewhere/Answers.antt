@@ -9,10 +9,8 @@ returns-in-Ok c =
     let value = get_or c.args.values.now c.in-Ok.k (pos 0) in
     let fits : SFits w32 value = search rules in
     to_z-of_z w32 value fits
-    ∙ sym (search-found c.args.places.now c.args.values.now c.args.place c.in-Ok.k c.requires.paired
-    c.requires.ascend c.in-Ok.ensures.position)
+    ∙ sym (search-found _ _ _ _ c.requires.paired c.requires.ascend c.in-Ok.ensures.position)
 
 pub returns-in-Err : goal.returns-in-Err
 returns-in-Err c =
-    sym (search-missed c.args.places.now c.args.values.now c.args.place c.in-Err.field-0
-    c.requires.ascend c.in-Err.ensures.position)
+    sym (search-missed _ _ _ _ c.requires.ascend c.in-Err.ensures.position)

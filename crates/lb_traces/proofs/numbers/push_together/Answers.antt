@@ -47,8 +47,7 @@ returns-clause-items c =
     let items = rw ok at c.extend_from_slice.ensures.items in
     items
     ∙ ap (λ xs. c.args.numbers.now.items ++ xs) (cells_of_count c
-    ∙ sym (together-cells c.args.row.now c.args.columns.now c.args.together c.requires.together
-    (inside c)))
+    ∙ sym (together-cells _ _ _ c.requires.together (inside c)))
 
 pub returns-clause-room : goal.returns-clause-room
 returns-clause-room c =

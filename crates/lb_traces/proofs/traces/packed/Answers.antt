@@ -36,8 +36,7 @@ loop-i-preserved-then-are_neighbours c =
     let start = get_or c.args.columns.now (c.args.first + c.loop-i.i) 0 in
     record {
       packed =
-          packing_sixteen c.args.row.now c.args.columns.now c.args.first c.loop-i.word
-          c.truths_in.result c.loop-i.i c.loop-i.invariant.packed
+          packing_sixteen _ _ _ _ _ _ c.loop-i.invariant.packed
           (omega (arith, c.if-count-i-ge16.true, c.min-count.ensures))
           (omega (arith, c.if-count-i-ge16.true, c.min-count.ensures, c.requires.first))
           (c.are_neighbours.ensures c.if-are_neighbours.true)
@@ -51,9 +50,7 @@ loop-i-preserved-then-are_neighbours c =
 pub loop-i-preserved : goal.loop-i-preserved
 loop-i-preserved c = record {
   packed =
-      packing_more c.args.row.now c.args.columns.now c.args.first c.loop-i.word
-      c.with_bit-word.result c.loop-i.i _ c.loop-i.invariant.packed
-      (ap (int_le (pos 1))
+      packing_more _ _ _ _ _ _ _ c.loop-i.invariant.packed (ap (int_le (pos 1))
       (to_z-of_z w32 c.cell_in-b.result (record { sfits = c.cell_in-b.type_inv })
       ∙ c.cell_in-b.ensures))
       c.with_bit-word.ensures.here

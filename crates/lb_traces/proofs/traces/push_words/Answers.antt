@@ -12,8 +12,7 @@ loop-g-init c = record {
 pub loop-g-preserved : goal.loop-g-preserved
 loop-g-preserved c = record {
   pushed =
-      pushing_more c.args.words.now.items c.args.row.now c.args.columns.now c.loop-g.words.items _
-      c.loop-g.g c.packed.result c.loop-g.invariant.pushed c.push_reserved.ensures.items
+      pushing_more _ _ _ _ _ _ _ c.loop-g.invariant.pushed c.push_reserved.ensures.items
       c.packed.ensures;
   room =
       omega (
@@ -32,6 +31,5 @@ push_reserved-requires c =
 
 pub returns : goal.returns
 returns c =
-    pushing_all c.args.words.now.items c.args.row.now c.args.columns.now c.loop-g.words.items
-    c.loop-g.g c.loop-g.invariant.pushed
+    pushing_all _ _ _ _ _ c.loop-g.invariant.pushed
     (omega (arith, c.loop-g-test.false, c.words_of_row-g-end.ensures))

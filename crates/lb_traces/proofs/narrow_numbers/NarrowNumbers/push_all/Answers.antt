@@ -5,9 +5,7 @@ use Rattle.lb_traces.proofs.narrow_numbers.NarrowNumbers.push_all.Goals as goal
 pub loop-done-preserved : goal.loop-done-preserved
 loop-done-preserved c = record {
   pushed =
-      chunk-pushed c.args.self.now.items c.args.numbers.now c.loop-done.self.items
-      c.push_chunk.new.self.items c.loop-done.done c.min-count.result
-      c.loop-done.invariant.pushed c.push_chunk.ensures.items;
+      chunk-pushed _ _ _ _ _ _ c.loop-done.invariant.pushed c.push_chunk.ensures.items;
   within = omega (arith, c.loop-done-test.true, c.min-count.ensures);
   room = omega (arith, c.loop-done.invariant.room, c.push_chunk.ensures.room);
 }

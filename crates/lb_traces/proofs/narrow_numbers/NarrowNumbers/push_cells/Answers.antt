@@ -1,7 +1,7 @@
 -- The cells of the integers stand behind the others.
 use Rattle.std.proofs.Common.{arith, rules, ◌≡◌, ◌≤◌, ◌++◌, ap, length, is_ok, true, take}
 use Rattle.lb_traces.specs.Narrow.{Integers}
-use Rattle.lb_traces.proofs.NarrowLists.{IsNarrow-append, length-integers}
+use Rattle.lb_traces.proofs.NarrowLists.{IsNarrow-append, as-many}
 use Rattle.lb_traces.proofs.PushedLists.{cells-pushed, front-is}
 use Rattle.lb_traces.proofs.narrow_numbers.NarrowNumbers.push_cells.Goals as goal
 
@@ -25,7 +25,7 @@ invariant_of-self c =
     rw items
     (IsNarrow-append cells (take (length numbers) array) c.self.inside.places.items
     c.self.inside.values.items c.self.invariant
-    (omega (arith, c.requires.few, ap length part, ap (λ (r : Integers). length r.items) c.self.view_is, length-integers c.self.inside.cells.items c.self.inside.places.items c.self.inside.values.items)))
+    (omega (arith, c.requires.few, ap length part, as-many _ _ _ c.self.view_is)))
 
 pub returns-clause-items : goal.returns-clause-items
 returns-clause-items c =
@@ -45,5 +45,6 @@ returns-clause-items c =
     let items : c.extend_from_slice.new.self.items ≡ cells ++ take (length numbers) array =
     rw ok at c.extend_from_slice.ensures.items in
     rw items
-    (cells-pushed c.self.inside.cells.items c.self.inside.places.items c.self.inside.values.items c.args.self.now.items c.self.invariant (ap (λ (r : Integers). r.items) c.self.view_is)
+    (cells-pushed c.self.inside.cells.items c.self.inside.places.items c.self.inside.values.items
+    c.args.self.now.items c.self.invariant (ap (λ (r : Integers). r.items) c.self.view_is)
     (take (length numbers) array) numbers part c.requires.told)

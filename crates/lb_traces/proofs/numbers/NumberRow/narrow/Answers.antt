@@ -1,7 +1,8 @@
 -- Cells that all tell an integer are the integers of the row.
 use Rattle.std.proofs.Common.{◌≡◌, ◌+◌, ◌<◌, ◌∙◌, ℕ, List, ℤ, ap, arith, drop, get_or, length}
 use Rattle.std.proofs.Common.{pos, negsuc, subst, sym, take, false}
-use Rattle.std.proofs.lemmas.List.{get_or-drop, get_or-take, get_or_default, length-drop, length-take-le}
+use Rattle.std.proofs.lemmas.List.{get_or-drop, get_or-take, get_or_default, length-drop}
+use Rattle.std.proofs.lemmas.List.{length-take-le}
 use Rattle.std.proofs.lemmas.List.{same_lists}
 use Rattle.std.specs.Prelude.{int_le}
 use Rattle.lb_traces.specs.Narrow.{AreCells}

@@ -2,7 +2,7 @@
 use Rattle.std.proofs.Common.{arith, rules, ◌≡◌, ◌+◌, ◌-◌, ◌*◌, length, take, drop}
 use Rattle.std.proofs.Common.{ap, ◌∙◌}
 use Rattle.lb_static.specs.Signature.{kinds_of}
-use Rattle.lb_traces.specs.Packed.{cells_of, words_of_row, bit_in, truth_columns}
+use Rattle.lb_traces.specs.Packed.{words_of_row, bit_in, truth_columns}
 use Rattle.lb_traces.proofs.Storing.{count_of}
 use Rattle.lb_traces.proofs.FoundCells.{part_fits, part_count, part_bits, part_past}
 use Rattle.lb_traces.proofs.traces.TraceSet.bits.Goals as goal
@@ -10,18 +10,13 @@ use Rattle.lb_traces.proofs.traces.TraceSet.bits.Goals as goal
 pub index-requires : goal.index-requires
 index-requires c =
     let count =
-    count_of c.args.self.now c.self.inside.signature c.self.inside.names
-    (cells_of c.self.inside.signature c.self.inside.numbers.items c.self.inside.words.items
-    c.self.inside.row_ends.items) c.self.inside.row_ends.items c.self.view_is in
+    count_of _ _ _ _ _ c.self.view_is in
     omega (arith, c.requires.trace, c.self.invariant.parts.rows.paired, count)
 
 pub overflow_mul-result : goal.overflow_mul-result
 overflow_mul-result c =
     let h =
-    part_fits c.args.self.now c.self.inside.signature c.self.inside.names
-    c.self.inside.numbers.items c.self.inside.words.items c.self.inside.row_ends.items
-    c.self.inside.columns.integers.items c.self.inside.columns.truths.items
-    c.self.inside.columns.places.items c.args.k c.self.view_is c.self.invariant c.requires.trace
+    part_fits _ _ _ _ _ _ _ _ _ c.args.k c.self.view_is c.self.invariant c.requires.trace
     c.args.t c.args.count c.index.result.now c.requires.instants c.index.ensures
     c.words_of_row-width.result (c.words_of_row-width.ensures ∙ ap words_of_row (search rules)) in
     omega (arith, h.0, h.1, c.self.inside.words.small)
@@ -29,10 +24,7 @@ overflow_mul-result c =
 pub overflow_mul-result-2 : goal.overflow_mul-result-2
 overflow_mul-result-2 c =
     let h =
-    part_fits c.args.self.now c.self.inside.signature c.self.inside.names
-    c.self.inside.numbers.items c.self.inside.words.items c.self.inside.row_ends.items
-    c.self.inside.columns.integers.items c.self.inside.columns.truths.items
-    c.self.inside.columns.places.items c.args.k c.self.view_is c.self.invariant c.requires.trace
+    part_fits _ _ _ _ _ _ _ _ _ c.args.k c.self.view_is c.self.invariant c.requires.trace
     c.args.t c.args.count c.index.result.now c.requires.instants c.index.ensures
     c.words_of_row-width.result (c.words_of_row-width.ensures ∙ ap words_of_row (search rules)) in
     omega (arith, h.0, c.self.inside.words.small)
@@ -40,10 +32,7 @@ overflow_mul-result-2 c =
 pub offset_bounds-as_slice-first : goal.offset_bounds-as_slice-first
 offset_bounds-as_slice-first c =
     let h =
-    part_fits c.args.self.now c.self.inside.signature c.self.inside.names
-    c.self.inside.numbers.items c.self.inside.words.items c.self.inside.row_ends.items
-    c.self.inside.columns.integers.items c.self.inside.columns.truths.items
-    c.self.inside.columns.places.items c.args.k c.self.view_is c.self.invariant c.requires.trace
+    part_fits _ _ _ _ _ _ _ _ _ c.args.k c.self.view_is c.self.invariant c.requires.trace
     c.args.t c.args.count c.index.result.now c.requires.instants c.index.ensures
     c.words_of_row-width.result (c.words_of_row-width.ensures ∙ ap words_of_row (search rules)) in
     omega (arith, h.0, h.1, c.self.inside.words.small)
@@ -51,10 +40,7 @@ offset_bounds-as_slice-first c =
 pub slice_bounds-result-end : goal.slice_bounds-result-end
 slice_bounds-result-end c =
     let h =
-    part_fits c.args.self.now c.self.inside.signature c.self.inside.names
-    c.self.inside.numbers.items c.self.inside.words.items c.self.inside.row_ends.items
-    c.self.inside.columns.integers.items c.self.inside.columns.truths.items
-    c.self.inside.columns.places.items c.args.k c.self.view_is c.self.invariant c.requires.trace
+    part_fits _ _ _ _ _ _ _ _ _ c.args.k c.self.view_is c.self.invariant c.requires.trace
     c.args.t c.args.count c.index.result.now c.requires.instants c.index.ensures
     c.words_of_row-width.result (c.words_of_row-width.ensures ∙ ap words_of_row (search rules)) in
     omega (arith, h.0, h.1)
@@ -83,10 +69,7 @@ taken c =
 pub returns-clause-words : goal.returns-clause-words
 returns-clause-words c =
     ap length (taken c)
-    ∙ part_count c.args.self.now c.self.inside.signature c.self.inside.names
-    c.self.inside.numbers.items c.self.inside.words.items c.self.inside.row_ends.items
-    c.self.inside.columns.integers.items c.self.inside.columns.truths.items
-    c.self.inside.columns.places.items c.args.k c.self.view_is c.self.invariant c.requires.trace
+    ∙ part_count _ _ _ _ _ _ _ _ _ c.args.k c.self.view_is c.self.invariant c.requires.trace
     c.args.t c.args.count c.index.result.now c.requires.instants c.index.ensures
 
 pub returns-clause-bits : goal.returns-clause-bits
@@ -95,10 +78,7 @@ returns-clause-bits c d b ld l =
     (λ ws. bit_in ws
     (64 * (d * words_of_row (length (truth_columns 0 (kinds_of c.args.self.now.signature)))) + b))
     (taken c)
-    ∙ part_bits c.args.self.now c.self.inside.signature c.self.inside.names
-    c.self.inside.numbers.items c.self.inside.words.items c.self.inside.row_ends.items
-    c.self.inside.columns.integers.items c.self.inside.columns.truths.items
-    c.self.inside.columns.places.items c.args.k c.self.view_is c.self.invariant c.requires.trace
+    ∙ part_bits _ _ _ _ _ _ _ _ _ c.args.k c.self.view_is c.self.invariant c.requires.trace
     c.args.t c.args.count c.index.result.now c.requires.instants c.index.ensures d b ld l
 
 pub returns-clause-past : goal.returns-clause-past
@@ -107,8 +87,5 @@ returns-clause-past c d b ld le l =
     (λ ws. bit_in ws
     (64 * (d * words_of_row (length (truth_columns 0 (kinds_of c.args.self.now.signature)))) + b))
     (taken c)
-    ∙ part_past c.args.self.now c.self.inside.signature c.self.inside.names
-    c.self.inside.numbers.items c.self.inside.words.items c.self.inside.row_ends.items
-    c.self.inside.columns.integers.items c.self.inside.columns.truths.items
-    c.self.inside.columns.places.items c.args.k c.self.view_is c.self.invariant c.requires.trace
+    ∙ part_past _ _ _ _ _ _ _ _ _ c.args.k c.self.view_is c.self.invariant c.requires.trace
     c.args.t c.args.count c.index.result.now c.requires.instants c.index.ensures d b ld le l

@@ -6,7 +6,7 @@ use Rattle.std.proofs.lemmas.List.{get_or_read}
 use Rattle.std.specs.Int.{bit_at}
 use Rattle.lb_syntax.specs.declared.tree.Kind.TheVariants.{Bool}
 use Rattle.lb_traces.specs.Traces.{cell_at}
-use Rattle.lb_traces.specs.Packed.{cells_of, words_of_row, truth_cell}
+use Rattle.lb_traces.specs.Packed.{words_of_row, truth_cell}
 use Rattle.lb_traces.proofs.Storing.{count_of}
 use Rattle.lb_traces.proofs.FoundCells.{place_in, words_fit, bit_within, bit_found, truth_is}
 use Rattle.lb_traces.proofs.traces.TraceSet.bool_at.Goals as goal
@@ -14,18 +14,12 @@ use Rattle.lb_traces.proofs.traces.TraceSet.bool_at.Goals as goal
 pub index-requires : goal.index-requires
 index-requires c =
     let count =
-    count_of c.args.self.now c.self.inside.signature c.self.inside.names
-    (cells_of c.self.inside.signature c.self.inside.numbers.items c.self.inside.words.items
-    c.self.inside.row_ends.items) c.self.inside.row_ends.items c.self.view_is in
+    count_of _ _ _ _ _ c.self.view_is in
     omega (arith, c.requires.trace, c.self.invariant.parts.rows.paired, count)
 
 pub index-requires-2 : goal.index-requires-2
 index-requires-2 c =
-    let within = place_in c.args.self.now c.self.inside.signature c.self.inside.names
-    c.self.inside.numbers.items c.self.inside.words.items
-    c.self.inside.row_ends.items c.self.inside.columns.integers.items
-    c.self.inside.columns.truths.items
-    c.self.inside.columns.places.items c.args.k c.self.view_is c.self.invariant c.requires.trace
+    let within = place_in _ _ _ _ _ _ _ _ _ c.args.k c.self.view_is c.self.invariant c.requires.trace
     c.args.column Bool c.requires.kind in
     omega (arith, within)
 
@@ -39,11 +33,7 @@ overflow_mul-row c =
     subst
     (λ w. (c.index.result.now + c.args.t) * w + w ≤ length c.self.inside.words.items)
     (sym wide)
-    (words_fit c.args.self.now c.self.inside.signature c.self.inside.names
-    c.self.inside.numbers.items c.self.inside.words.items
-    c.self.inside.row_ends.items c.self.inside.columns.integers.items
-    c.self.inside.columns.truths.items
-    c.self.inside.columns.places.items c.args.k c.self.view_is c.self.invariant c.requires.trace
+    (words_fit _ _ _ _ _ _ _ _ _ c.args.k c.self.view_is c.self.invariant c.requires.trace
     c.args.t c.index.result.now
     c.requires.instant c.index.ensures) in
     omega (arith, fit, c.self.inside.words.small)
@@ -58,21 +48,13 @@ overflow_add-row-2 c =
     subst
     (λ w. (c.index.result.now + c.args.t) * w + w ≤ length c.self.inside.words.items)
     (sym wide)
-    (words_fit c.args.self.now c.self.inside.signature c.self.inside.names
-    c.self.inside.numbers.items c.self.inside.words.items
-    c.self.inside.row_ends.items c.self.inside.columns.integers.items
-    c.self.inside.columns.truths.items
-    c.self.inside.columns.places.items c.args.k c.self.view_is c.self.invariant c.requires.trace
+    (words_fit _ _ _ _ _ _ _ _ _ c.args.k c.self.view_is c.self.invariant c.requires.trace
     c.args.t c.index.result.now
     c.requires.instant c.index.ensures) in
     let place : c.index-2.result.now / 64 < c.words_of_row.result =
     omega (
       arith,
-      bit_within c.args.self.now c.self.inside.signature c.self.inside.names
-          c.self.inside.numbers.items c.self.inside.words.items
-          c.self.inside.row_ends.items c.self.inside.columns.integers.items
-          c.self.inside.columns.truths.items
-          c.self.inside.columns.places.items c.args.k c.self.view_is c.self.invariant
+      bit_within _ _ _ _ _ _ _ _ _ c.args.k c.self.view_is c.self.invariant
           c.requires.trace c.args.t c.index.result.now
           c.requires.instant c.index.ensures
           c.args.column c.index-2.result.now c.index-2.ensures c.requires.kind,
@@ -90,21 +72,13 @@ index-word-requires c =
     subst
     (λ w. (c.index.result.now + c.args.t) * w + w ≤ length c.self.inside.words.items)
     (sym wide)
-    (words_fit c.args.self.now c.self.inside.signature c.self.inside.names
-    c.self.inside.numbers.items c.self.inside.words.items
-    c.self.inside.row_ends.items c.self.inside.columns.integers.items
-    c.self.inside.columns.truths.items
-    c.self.inside.columns.places.items c.args.k c.self.view_is c.self.invariant c.requires.trace
+    (words_fit _ _ _ _ _ _ _ _ _ c.args.k c.self.view_is c.self.invariant c.requires.trace
     c.args.t c.index.result.now
     c.requires.instant c.index.ensures) in
     let place : c.index-2.result.now / 64 < c.words_of_row.result =
     omega (
       arith,
-      bit_within c.args.self.now c.self.inside.signature c.self.inside.names
-          c.self.inside.numbers.items c.self.inside.words.items
-          c.self.inside.row_ends.items c.self.inside.columns.integers.items
-          c.self.inside.columns.truths.items
-          c.self.inside.columns.places.items c.args.k c.self.view_is c.self.invariant
+      bit_within _ _ _ _ _ _ _ _ _ c.args.k c.self.view_is c.self.invariant
           c.requires.trace c.args.t c.index.result.now
           c.requires.instant c.index.ensures
           c.args.column c.index-2.result.now c.index-2.ensures c.requires.kind,
@@ -122,21 +96,13 @@ returns c =
     subst
     (λ w. (c.index.result.now + c.args.t) * w + w ≤ length c.self.inside.words.items)
     (sym wide)
-    (words_fit c.args.self.now c.self.inside.signature c.self.inside.names
-    c.self.inside.numbers.items c.self.inside.words.items
-    c.self.inside.row_ends.items c.self.inside.columns.integers.items
-    c.self.inside.columns.truths.items
-    c.self.inside.columns.places.items c.args.k c.self.view_is c.self.invariant c.requires.trace
+    (words_fit _ _ _ _ _ _ _ _ _ c.args.k c.self.view_is c.self.invariant c.requires.trace
     c.args.t c.index.result.now
     c.requires.instant c.index.ensures) in
     let place : c.index-2.result.now / 64 < c.words_of_row.result =
     omega (
       arith,
-      bit_within c.args.self.now c.self.inside.signature c.self.inside.names
-          c.self.inside.numbers.items c.self.inside.words.items
-          c.self.inside.row_ends.items c.self.inside.columns.integers.items
-          c.self.inside.columns.truths.items
-          c.self.inside.columns.places.items c.args.k c.self.view_is c.self.invariant
+      bit_within _ _ _ _ _ _ _ _ _ c.args.k c.self.view_is c.self.invariant
           c.requires.trace c.args.t c.index.result.now
           c.requires.instant c.index.ensures
           c.args.column c.index-2.result.now c.index-2.ensures c.requires.kind,
@@ -150,11 +116,7 @@ returns c =
     c.index-word.result.now inside c.index-word.ensures 0 in
     let same : cell_at c.args.self.now.traces c.args.k c.args.t c.args.column
     ≡ truth_cell c.has_bit.result =
-    bit_found c.args.self.now c.self.inside.signature c.self.inside.names
-    c.self.inside.numbers.items c.self.inside.words.items
-    c.self.inside.row_ends.items c.self.inside.columns.integers.items
-    c.self.inside.columns.truths.items
-    c.self.inside.columns.places.items c.args.k c.self.view_is c.self.invariant c.requires.trace
+    bit_found _ _ _ _ _ _ _ _ _ c.args.k c.self.view_is c.self.invariant c.requires.trace
     c.args.t c.index.result.now
     c.requires.instant c.index.ensures
     c.args.column c.index-2.result.now c.index-2.ensures c.requires.kind

@@ -3,13 +3,7 @@ use Rattle.lb_traces.proofs.IntegerCounts.{integers-limit, words-limit}
 use Rattle.lb_traces.proofs.traces.TraceSet.bytes.Goals as goal
 
 pub bytes-requires : goal.bytes-requires
-bytes-requires c = omega (
-  arith,
-  integers-limit c.self.inside.signature c.self.inside.names c.self.inside.numbers.items
-      c.self.inside.words.items c.self.inside.row_ends.items
-      c.self.inside.columns.integers.items c.self.inside.columns.truths.items
-      c.self.inside.columns.places.items c.self.invariant,
-)
+bytes-requires c = omega (arith, integers-limit _ _ _ _ _ _ _ _ c.self.invariant)
 
 pub overflow_mul-result : goal.overflow_mul-result
 overflow_mul-result c =
@@ -34,8 +28,5 @@ overflow_add-result c =
           c.self.inside.words.items c.self.inside.row_ends.items
           c.self.inside.columns.integers.items c.self.inside.columns.truths.items
           c.self.inside.columns.places.items c.self.invariant,
-      integers-limit c.self.inside.signature c.self.inside.names c.self.inside.numbers.items
-          c.self.inside.words.items c.self.inside.row_ends.items
-          c.self.inside.columns.integers.items c.self.inside.columns.truths.items
-          c.self.inside.columns.places.items c.self.invariant,
+      integers-limit _ _ _ _ _ _ _ _ c.self.invariant,
     )

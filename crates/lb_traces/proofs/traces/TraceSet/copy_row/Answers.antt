@@ -60,7 +60,7 @@ returns-clause-ok c =
     let lawful : IsRecording c.args.self.now =
     subst IsRecording c.self.view_is c.self.invariant.parts.lawful in
     let follows : IsRow c.args.self.now.signature row =
-    row_follows c.args.self.now c.args.k c.args.t lawful c.requires.trace c.requires.instant in
+    row_follows _ _ _ lawful c.requires.trace c.requires.instant in
     let long : length row ≡ length c.args.self.now.signature =
     length-row c.args.self.now.signature row follows in
     let wide : length c.self.inside.signature ≡ length c.args.self.now.signature =
@@ -76,7 +76,7 @@ loop-column-preserved c =
     let lawful : IsRecording c.args.self.now =
     subst IsRecording c.self.view_is c.self.invariant.parts.lawful in
     let follows : IsRow c.args.self.now.signature row =
-    row_follows c.args.self.now c.args.k c.args.t lawful c.requires.trace c.requires.instant in
+    row_follows _ _ _ lawful c.requires.trace c.requires.instant in
     let long : length row ≡ length c.args.self.now.signature =
     length-row c.args.self.now.signature row follows in
     let wide : length c.self.inside.signature ≡ length c.args.self.now.signature =
@@ -92,7 +92,7 @@ loop-column-preserved c =
           w.cell-is ∙ to_z-of_z w32 w.from-cell.result (record { sfits = w.from-cell.type_inv })
           ∙ w.from-cell.ensures ∙ truth_of w.bool_at.result
           (get_or row c.loop-column.column (pos 0))
-          (lawful_cell c.args.self.now.signature row c.loop-column.column follows l
+          (lawful_cell _ _ _ follows l
           (ap (λ (r : Recording). get_or (kinds_of r.signature) c.loop-column.column Int)
           (sym c.self.view_is)
           ∙ get_or_from_slice_get (kinds_of c.self.inside.signature) c.loop-column.column
@@ -102,7 +102,7 @@ loop-column-preserved c =
     ] in
     record {
       copied =
-          grown c.args.row.now.items row c.push_reserved.new.self.items c.loop-column.row.items
+          grown _ _ _ _
           c.loop-column.column (to_z w32 c.match-kind.cell-bits) c.push_reserved.ensures.items
           c.loop-column.invariant.copied l value;
       room =

@@ -5,7 +5,6 @@ use Rattle.std.proofs.Common.{pos, w32}
 use Rattle.std.proofs.lemmas.Int.{to_z-of_z}
 use mir.Val.{SFits}
 use Rattle.lb_syntax.specs.declared.tree.Kind.TheVariants.{Int}
-use Rattle.lb_traces.specs.Packed.{cells_of}
 use Rattle.lb_traces.proofs.IntegerCounts.{integers-limit}
 use Rattle.lb_traces.proofs.Storing.{count_of}
 use Rattle.lb_traces.proofs.FoundCells.{place_in, numbers_fit, number_within, number_found}
@@ -14,18 +13,12 @@ use Rattle.lb_traces.proofs.traces.TraceSet.int_at.Goals as goal
 pub index-requires : goal.index-requires
 index-requires c =
     let count =
-    count_of c.args.self.now c.self.inside.signature c.self.inside.names
-    (cells_of c.self.inside.signature c.self.inside.numbers.items c.self.inside.words.items
-    c.self.inside.row_ends.items) c.self.inside.row_ends.items c.self.view_is in
+    count_of _ _ _ _ _ c.self.view_is in
     omega (arith, c.requires.trace, c.self.invariant.parts.rows.paired, count)
 
 pub index-requires-2 : goal.index-requires-2
 index-requires-2 c =
-    let within = place_in c.args.self.now c.self.inside.signature c.self.inside.names
-    c.self.inside.numbers.items c.self.inside.words.items
-    c.self.inside.row_ends.items c.self.inside.columns.integers.items
-    c.self.inside.columns.truths.items
-    c.self.inside.columns.places.items c.args.k c.self.view_is c.self.invariant c.requires.trace
+    let within = place_in _ _ _ _ _ _ _ _ _ c.args.k c.self.view_is c.self.invariant c.requires.trace
     c.args.column Int c.requires.kind in
     omega (arith, within)
 
@@ -37,20 +30,10 @@ overflow_mul-row c =
     subst
     (λ w. (c.index.result.now + c.args.t) * w + w ≤ length c.self.inside.numbers.items)
     (sym wide)
-    (numbers_fit c.args.self.now c.self.inside.signature c.self.inside.names
-    c.self.inside.numbers.items c.self.inside.words.items
-    c.self.inside.row_ends.items c.self.inside.columns.integers.items
-    c.self.inside.columns.truths.items
-    c.self.inside.columns.places.items c.args.k c.self.view_is c.self.invariant c.requires.trace
+    (numbers_fit _ _ _ _ _ _ _ _ _ c.args.k c.self.view_is c.self.invariant c.requires.trace
     c.args.t c.index.result.now
     c.requires.instant c.index.ensures) in
-    omega (
-      arith,
-      fit,
-      integers-limit c.self.inside.signature c.self.inside.names c.self.inside.numbers.items
-          c.self.inside.words.items c.self.inside.row_ends.items c.self.inside.columns.integers.items
-          c.self.inside.columns.truths.items c.self.inside.columns.places.items c.self.invariant,
-    )
+    omega (arith, fit, integers-limit _ _ _ _ _ _ _ _ c.self.invariant)
 
 pub overflow_add-row-2 : goal.overflow_add-row-2
 overflow_add-row-2 c =
@@ -60,34 +43,19 @@ overflow_add-row-2 c =
     subst
     (λ w. (c.index.result.now + c.args.t) * w + w ≤ length c.self.inside.numbers.items)
     (sym wide)
-    (numbers_fit c.args.self.now c.self.inside.signature c.self.inside.names
-    c.self.inside.numbers.items c.self.inside.words.items
-    c.self.inside.row_ends.items c.self.inside.columns.integers.items
-    c.self.inside.columns.truths.items
-    c.self.inside.columns.places.items c.args.k c.self.view_is c.self.invariant c.requires.trace
+    (numbers_fit _ _ _ _ _ _ _ _ _ c.args.k c.self.view_is c.self.invariant c.requires.trace
     c.args.t c.index.result.now
     c.requires.instant c.index.ensures) in
     let place : c.index-2.result.now < c.len.result =
     omega (
       arith,
-      number_within c.args.self.now c.self.inside.signature c.self.inside.names
-          c.self.inside.numbers.items c.self.inside.words.items
-          c.self.inside.row_ends.items c.self.inside.columns.integers.items
-          c.self.inside.columns.truths.items
-          c.self.inside.columns.places.items c.args.k c.self.view_is c.self.invariant
+      number_within _ _ _ _ _ _ _ _ _ c.args.k c.self.view_is c.self.invariant
           c.requires.trace c.args.t c.index.result.now
           c.requires.instant c.index.ensures
           c.args.column c.index-2.result.now c.index-2.ensures c.requires.kind,
       wide,
     ) in
-    omega (
-      arith,
-      fit,
-      place,
-      integers-limit c.self.inside.signature c.self.inside.names c.self.inside.numbers.items
-          c.self.inside.words.items c.self.inside.row_ends.items c.self.inside.columns.integers.items
-          c.self.inside.columns.truths.items c.self.inside.columns.places.items c.self.invariant,
-    )
+    omega (arith, fit, place, integers-limit _ _ _ _ _ _ _ _ c.self.invariant)
 
 pub get-requires : goal.get-requires
 get-requires c =
@@ -97,21 +65,13 @@ get-requires c =
     subst
     (λ w. (c.index.result.now + c.args.t) * w + w ≤ length c.self.inside.numbers.items)
     (sym wide)
-    (numbers_fit c.args.self.now c.self.inside.signature c.self.inside.names
-    c.self.inside.numbers.items c.self.inside.words.items
-    c.self.inside.row_ends.items c.self.inside.columns.integers.items
-    c.self.inside.columns.truths.items
-    c.self.inside.columns.places.items c.args.k c.self.view_is c.self.invariant c.requires.trace
+    (numbers_fit _ _ _ _ _ _ _ _ _ c.args.k c.self.view_is c.self.invariant c.requires.trace
     c.args.t c.index.result.now
     c.requires.instant c.index.ensures) in
     let place : c.index-2.result.now < c.len.result =
     omega (
       arith,
-      number_within c.args.self.now c.self.inside.signature c.self.inside.names
-          c.self.inside.numbers.items c.self.inside.words.items
-          c.self.inside.row_ends.items c.self.inside.columns.integers.items
-          c.self.inside.columns.truths.items
-          c.self.inside.columns.places.items c.args.k c.self.view_is c.self.invariant
+      number_within _ _ _ _ _ _ _ _ _ c.args.k c.self.view_is c.self.invariant
           c.requires.trace c.args.t c.index.result.now
           c.requires.instant c.index.ensures
           c.args.column c.index-2.result.now c.index-2.ensures c.requires.kind,
@@ -127,21 +87,13 @@ returns c =
     subst
     (λ w. (c.index.result.now + c.args.t) * w + w ≤ length c.self.inside.numbers.items)
     (sym wide)
-    (numbers_fit c.args.self.now c.self.inside.signature c.self.inside.names
-    c.self.inside.numbers.items c.self.inside.words.items
-    c.self.inside.row_ends.items c.self.inside.columns.integers.items
-    c.self.inside.columns.truths.items
-    c.self.inside.columns.places.items c.args.k c.self.view_is c.self.invariant c.requires.trace
+    (numbers_fit _ _ _ _ _ _ _ _ _ c.args.k c.self.view_is c.self.invariant c.requires.trace
     c.args.t c.index.result.now
     c.requires.instant c.index.ensures) in
     let place : c.index-2.result.now < c.len.result =
     omega (
       arith,
-      number_within c.args.self.now c.self.inside.signature c.self.inside.names
-          c.self.inside.numbers.items c.self.inside.words.items
-          c.self.inside.row_ends.items c.self.inside.columns.integers.items
-          c.self.inside.columns.truths.items
-          c.self.inside.columns.places.items c.args.k c.self.view_is c.self.invariant
+      number_within _ _ _ _ _ _ _ _ _ c.args.k c.self.view_is c.self.invariant
           c.requires.trace c.args.t c.index.result.now
           c.requires.instant c.index.ensures
           c.args.column c.index-2.result.now c.index-2.ensures c.requires.kind,
@@ -154,11 +106,7 @@ returns c =
     to_z-of_z w32 c.get.result fits ∙ c.get.ensures
     ∙ ap
     (λ w. get_or c.self.inside.numbers.items (row * w + c.index-2.result.now) (pos 0)) wide
-    ∙ number_found c.args.self.now c.self.inside.signature c.self.inside.names
-    c.self.inside.numbers.items c.self.inside.words.items
-    c.self.inside.row_ends.items c.self.inside.columns.integers.items
-    c.self.inside.columns.truths.items
-    c.self.inside.columns.places.items c.args.k c.self.view_is c.self.invariant c.requires.trace
+    ∙ number_found _ _ _ _ _ _ _ _ _ c.args.k c.self.view_is c.self.invariant c.requires.trace
     c.args.t c.index.result.now
     c.requires.instant c.index.ensures
     c.args.column c.index-2.result.now c.index-2.ensures c.requires.kind

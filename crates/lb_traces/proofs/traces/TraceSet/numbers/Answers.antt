@@ -1,7 +1,6 @@
 -- The integers of the instant lie within all integers.
 use Rattle.std.proofs.Common.{arith, rules, ◌≡◌, ◌≤◌, ◌+◌, ◌*◌, length, take, drop}
 use Rattle.std.proofs.Common.{get_or, pos, ap, sym, ◌∙◌, subst}
-use Rattle.lb_traces.specs.Packed.{cells_of}
 use Rattle.lb_traces.proofs.IntegerCounts.{integers-limit}
 use Rattle.lb_traces.proofs.Storing.{count_of}
 use Rattle.lb_traces.proofs.FoundCells.{numbers_fit, numbers_count, numbers_found}
@@ -10,9 +9,7 @@ use Rattle.lb_traces.proofs.traces.TraceSet.numbers.Goals as goal
 pub index-requires : goal.index-requires
 index-requires c =
     let count =
-    count_of c.args.self.now c.self.inside.signature c.self.inside.names
-    (cells_of c.self.inside.signature c.self.inside.numbers.items c.self.inside.words.items
-    c.self.inside.row_ends.items) c.self.inside.row_ends.items c.self.view_is in
+    count_of _ _ _ _ _ c.self.view_is in
     omega (arith, c.requires.trace, c.self.invariant.parts.rows.paired, count)
 
 pub overflow_mul-start : goal.overflow_mul-start
@@ -23,20 +20,10 @@ overflow_mul-start c =
     subst
     (λ w. (c.index.result.now + c.args.t) * w + w ≤ length c.self.inside.numbers.items)
     (sym wide)
-    (numbers_fit c.args.self.now c.self.inside.signature c.self.inside.names
-    c.self.inside.numbers.items c.self.inside.words.items
-    c.self.inside.row_ends.items c.self.inside.columns.integers.items
-    c.self.inside.columns.truths.items
-    c.self.inside.columns.places.items c.args.k c.self.view_is c.self.invariant c.requires.trace
+    (numbers_fit _ _ _ _ _ _ _ _ _ c.args.k c.self.view_is c.self.invariant c.requires.trace
     c.args.t c.index.result.now
     c.requires.instant c.index.ensures) in
-    omega (
-      arith,
-      fit,
-      integers-limit c.self.inside.signature c.self.inside.names c.self.inside.numbers.items
-          c.self.inside.words.items c.self.inside.row_ends.items c.self.inside.columns.integers.items
-          c.self.inside.columns.truths.items c.self.inside.columns.places.items c.self.invariant,
-    )
+    omega (arith, fit, integers-limit _ _ _ _ _ _ _ _ c.self.invariant)
 
 pub row-requires-clause-within : goal.row-requires-clause-within
 row-requires-clause-within c =
@@ -46,11 +33,7 @@ row-requires-clause-within c =
     subst
     (λ w. (c.index.result.now + c.args.t) * w + w ≤ length c.self.inside.numbers.items)
     (sym wide)
-    (numbers_fit c.args.self.now c.self.inside.signature c.self.inside.names
-    c.self.inside.numbers.items c.self.inside.words.items
-    c.self.inside.row_ends.items c.self.inside.columns.integers.items
-    c.self.inside.columns.truths.items
-    c.self.inside.columns.places.items c.args.k c.self.view_is c.self.invariant c.requires.trace
+    (numbers_fit _ _ _ _ _ _ _ _ _ c.args.k c.self.view_is c.self.invariant c.requires.trace
     c.args.t c.index.result.now
     c.requires.instant c.index.ensures) in
     omega (arith, fit)
@@ -70,22 +53,14 @@ taken c =
 pub returns-clause-count : goal.returns-clause-count
 returns-clause-count c =
     ap length (taken c)
-    ∙ numbers_count c.args.self.now c.self.inside.signature c.self.inside.names
-    c.self.inside.numbers.items c.self.inside.words.items
-    c.self.inside.row_ends.items c.self.inside.columns.integers.items
-    c.self.inside.columns.truths.items
-    c.self.inside.columns.places.items c.args.k c.self.view_is c.self.invariant c.requires.trace
+    ∙ numbers_count _ _ _ _ _ _ _ _ _ c.args.k c.self.view_is c.self.invariant c.requires.trace
     c.args.t c.index.result.now
     c.requires.instant c.index.ensures
 
 pub returns-clause-numbers : goal.returns-clause-numbers
 returns-clause-numbers c w l =
     ap (λ xs. get_or xs w (pos 0)) (taken c)
-    ∙ numbers_found c.args.self.now c.self.inside.signature c.self.inside.names
-    c.self.inside.numbers.items c.self.inside.words.items
-    c.self.inside.row_ends.items c.self.inside.columns.integers.items
-    c.self.inside.columns.truths.items
-    c.self.inside.columns.places.items c.args.k c.self.view_is c.self.invariant c.requires.trace
+    ∙ numbers_found _ _ _ _ _ _ _ _ _ c.args.k c.self.view_is c.self.invariant c.requires.trace
     c.args.t c.index.result.now
     c.requires.instant c.index.ensures w l
 
@@ -97,18 +72,7 @@ row-requires-clause-few c =
     subst
     (λ w. (c.index.result.now + c.args.t) * w + w ≤ length c.self.inside.numbers.items)
     (sym wide)
-    (numbers_fit c.args.self.now c.self.inside.signature c.self.inside.names
-    c.self.inside.numbers.items c.self.inside.words.items
-    c.self.inside.row_ends.items c.self.inside.columns.integers.items
-    c.self.inside.columns.truths.items
-    c.self.inside.columns.places.items c.args.k c.self.view_is c.self.invariant c.requires.trace
+    (numbers_fit _ _ _ _ _ _ _ _ _ c.args.k c.self.view_is c.self.invariant c.requires.trace
     c.args.t c.index.result.now
     c.requires.instant c.index.ensures) in
-    omega (
-      arith,
-      fit,
-      integers-limit c.self.inside.signature c.self.inside.names c.self.inside.numbers.items
-          c.self.inside.words.items c.self.inside.row_ends.items
-          c.self.inside.columns.integers.items c.self.inside.columns.truths.items
-          c.self.inside.columns.places.items c.self.invariant,
-    )
+    omega (arith, fit, integers-limit _ _ _ _ _ _ _ _ c.self.invariant)

@@ -33,18 +33,15 @@ rows_are c =
     c.in_ok-reserve.ensures.items in
     let count : c.len-3.result ≡ length c.reserve.new.self.items =
     c.len-3.ensures ∙ c.reserve.new.self.ok.0 in
-    read_last c.self.inside.row_ends.items c.len-3.result c.index-rows.result.now
+    read_last _ _ _
     c.self.invariant.parts.rows.ledger (count ∙ ap length items) (rw items at c.index-rows.ensures)
 
 pub overflow_add-rows : goal.overflow_add-rows
 overflow_add-rows c =
-    let s = c.self.inside in
     omega (
       arith,
       rows_are c,
-      rows_fit_of c.args.self.now s.signature s.names
-          (cells_of s.signature s.numbers.items s.words.items s.row_ends.items) s.row_ends.items
-          c.self.view_is c.self.invariant.parts c.requires.room,
+      rows_fit_of _ _ _ _ _ c.self.view_is c.self.invariant.parts c.requires.room,
     )
 
 names_are : (c : goal.After-push-2) → c.push.new.self ≡ c.self.inside.names ++ c.args.name.now ∷ []
@@ -67,8 +64,7 @@ ends_are c =
     let count : c.len-3.result ≡ length c.reserve.new.self.items =
     c.len-3.ensures ∙ c.reserve.new.self.ok.0 in
     let rows : c.index-rows.result.now ≡ last_place c.self.inside.row_ends.items =
-    read_last c.self.inside.row_ends.items c.len-3.result c.index-rows.result.now
-    c.self.invariant.parts.rows.ledger (count ∙ ap length items)
+    read_last _ _ _ c.self.invariant.parts.rows.ledger (count ∙ ap length items)
     (rw items at c.index-rows.ensures) in
     (rw room at c.push-2.ensures.items)
     ∙ ap (λ ends. ends ++ (c.index-rows.result.now + 1) ∷ []) items
@@ -83,12 +79,7 @@ push_row-requires-clause-room c =
 pub push_row-requires-clause-columns : goal.push_row-requires-clause-columns
 push_row-requires-clause-columns c =
     rw c.as_slice.ensures.value
-    (integers_in c.args.self.now c.self.inside.signature c.self.inside.names
-    c.self.inside.numbers.items c.self.inside.words.items
-    c.self.inside.row_ends.items c.self.inside.columns.integers.items
-    c.self.inside.columns.truths.items
-    c.self.inside.columns.places.items
-    c.args.row.now c.self.view_is c.self.invariant c.requires.row)
+    (integers_in _ _ _ _ _ _ _ _ _ _ c.self.view_is c.self.invariant c.requires.row)
 
 pub push_row-requires-clause-together : goal.push_row-requires-clause-together
 push_row-requires-clause-together c =
@@ -106,12 +97,7 @@ push_words-requires-clause-room c =
 pub push_words-requires-clause-columns : goal.push_words-requires-clause-columns
 push_words-requires-clause-columns c =
     rw c.as_slice-2.ensures.value
-    (truths_in c.args.self.now c.self.inside.signature c.self.inside.names
-    c.self.inside.numbers.items c.self.inside.words.items
-    c.self.inside.row_ends.items c.self.inside.columns.integers.items
-    c.self.inside.columns.truths.items
-    c.self.inside.columns.places.items
-    c.args.row.now c.self.view_is c.self.invariant c.requires.row)
+    (truths_in _ _ _ _ _ _ _ _ _ _ c.self.view_is c.self.invariant c.requires.row)
 
 words_are : (c : goal.After-push-2) → HasPushed c.self.inside.words.items c.args.row.now
     c.self.inside.columns.truths.items c.push_words.new.words.items
@@ -136,11 +122,7 @@ changed :
       traces = with_trace c.args.self.now.traces c.args.name.now c.args.row.now;
     })
 changed c =
-    set_started c.args.self.now c.self.inside.signature c.self.inside.names
-    c.self.inside.numbers.items c.self.inside.words.items
-    c.self.inside.row_ends.items c.self.inside.columns.integers.items
-    c.self.inside.columns.truths.items
-    c.self.inside.columns.places.items
+    set_started _ _ _ _ _ _ _ _ _
     c.args.name.now c.args.row.now c.push_words.new.words.items c.self.view_is c.self.invariant
     c.requires.name c.requires.fresh c.requires.row c.requires.count c.requires.room (words_are c)
 
@@ -156,13 +138,7 @@ push_words-requires-clause-ints c =
 
 pub reserve_row-requires : goal.reserve_row-requires
 reserve_row-requires c =
-    omega (
-      arith,
-      integers-limit c.self.inside.signature c.self.inside.names c.self.inside.numbers.items
-          c.self.inside.words.items c.self.inside.row_ends.items
-          c.self.inside.columns.integers.items c.self.inside.columns.truths.items
-          c.self.inside.columns.places.items c.self.invariant,
-    )
+    omega (arith, integers-limit _ _ _ _ _ _ _ _ c.self.invariant)
 
 on_err : {X E : Type 0} (result : Result X E) (P : Type 0) → P → OnErr result P
 on_err (Ok x) P p = tt
