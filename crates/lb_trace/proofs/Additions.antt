@@ -111,9 +111,7 @@ pub start_by-refused : (elements : Elements) (name : List ℕ) (traces : Traces)
     → has ≡ list_any (λ t. bytes_eq name t.0) traces → (is_trace_name name && not has) ≡ false
     → start_by elements name traces row ≡ Err 17
 start_by-refused elements name traces row has known bad =
-    refuse (is_trace_name name) (list_any (λ (t : Trace). bytes_eq name t.0) traces)
-    (start_cells elements name traces row)
-    (ap (λ b. is_trace_name name && not b) (sym known) ∙ bad)
+    refuse _ _ _ (ap (λ b. is_trace_name name && not b) (sym known) ∙ bad)
 
 -- `start_by` is `start_cells` where the name is lawful and new
 pub start_by-new : (elements : Elements) (name : List ℕ) (traces : Traces) (row : Option Row)

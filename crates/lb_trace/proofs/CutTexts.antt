@@ -47,7 +47,7 @@ split-append picks (b ∷ before) c after e = by (picks b) refl (split-append pi
     by true t more = rw t (ap (λ parts. [] ∷ parts) more)
     by false t more =
         rw t (ap (at_front b) more
-        ∙ front-append b (split_at picks before) (split_at picks after) (split-some picks before))
+        ∙ front-append _ _ _ (split-some picks before))
 
 -- the records of a text around the end of a line are those of both sides
 pub plain-cut : (before : List ℕ) (c : ℕ) (after : List ℕ) → ends_line c ≡ true
@@ -55,8 +55,7 @@ pub plain-cut : (before : List ℕ) (c : ℕ) (after : List ℕ) → ends_line c
 unfolding plain_records
 plain-cut before c after e =
     ap (λ lines. map (split_at is_comma) (filter is_filled lines))
-    (split-append ends_line before c after e)
-    ∙ ap (map (split_at is_comma))
+    (split-append _ _ _ _ e) ∙ ap (map (split_at is_comma))
     (filter-append is_filled (split_at ends_line before) (split_at ends_line after))
     ∙ map-append (split_at is_comma) (filter is_filled (split_at ends_line before))
     (filter is_filled (split_at ends_line after))
@@ -89,7 +88,7 @@ cut-found text i b below is end =
     ap plain_records (sym (take-append-drop i text))
     ∙ ap (λ rest. plain_records (take i text ++ rest))
     (drop_more text i 0 below ∙ ap (λ x. x ∷ drop (i + 1) text) (sym is))
-    ∙ plain-cut (take i text) b (drop (i + 1) text) end
+    ∙ plain-cut _ _ _ end
     ∙ ap (λ rest. plain_records (take i text) ++ plain_records rest) (sym (take_rest text (i + 1)))
 
 -- nothing is left behind the whole text

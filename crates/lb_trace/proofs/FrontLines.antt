@@ -407,11 +407,7 @@ first_short (b ∷ rest) first cells more is =
         omega arith
     by false end less =
         let here : record_of (b ∷ rest) ≡ first ∷ cells = cc (is, plain-line b rest end) in
-        omega (
-          arith,
-          split_short (line_of (b ∷ rest)) first cells here,
-          line_short (b ∷ rest),
-        )
+        omega (arith, split_short _ _ _ here, line_short (b ∷ rest))
 
 pub strip_short : (text : List ℕ) → length (strip_bom text) ≤ length text
 unfolding strip_bom
@@ -433,9 +429,4 @@ header-long elements text [] more is headed = cc headed
 header-long elements text (first ∷ cells) more is headed =
     let same : first ≡ codes "trace" = (bytes_eq-Decides first (codes "trace")).0
     (and_first (bytes_eq first (codes "trace")) (are_columns elements cells) headed) in
-    omega (
-      arith,
-      ap length same,
-      first_short (strip_bom text) first cells more is,
-      strip_short text,
-    )
+    omega (arith, ap length same, first_short _ _ _ _ is, strip_short text)

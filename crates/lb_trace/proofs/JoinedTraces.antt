@@ -1,21 +1,19 @@
 -- The instants of traces that are joined.
-use Rattle.std.proofs.Common.{ℕ, suc, ◌≡◌, ◌+◌, ◌-◌, ◌*◌, ◌<◌, Bool, true, false, not, ◌||◌, ◌&&◌}
+use Rattle.std.proofs.Common.{ℕ, suc, ◌≡◌, ◌-◌, ◌<◌, Bool, true, false}
 use Rattle.std.proofs.Common.{if◌then◌else◌, List, [], ◌∷◌, ◌++◌, length, get_or, map, drop}
 use Rattle.std.proofs.Common.{Some}
 use Rattle.std.proofs.Common.{Result, Ok, Err, refl, sym, ap, ◌∙◌, subst, append_assoc, arith}
-use Rattle.std.proofs.Common.{nat_le, nat_lt}
 use Rattle.std.proofs.lemmas.List.{append-nil, map-append}
 use Rattle.std.specs.Prelude.{flat_map}
-use Rattle.std.specs.List.{All, list_any}
-use Rattle.std.specs.Str.{bytes_eq}
+use Rattle.std.specs.List.{All}
 use Rattle.std.proofs.lemmas.Slice.Eq.{bytes_eq-Decides}
 use Rattle.lb_static.specs.Signature.{Elements}
-use Rattle.lb_traces.specs.Traces.{IsRecording, IsRow, Recording, Row, Trace, Traces}
-use Rattle.lb_traces.specs.Traces.{cells_of_instant, instants_of, last_rows, trace_at, with_row}
+use Rattle.lb_traces.specs.Traces.{IsRecording, IsRow, Recording, Row, Traces}
+use Rattle.lb_traces.specs.Traces.{trace_at, with_row}
 use Rattle.lb_traces.specs.Traces.{with_rows, with_trace}
 use Rattle.lb_trace.specs.declared.recorder.Recorder.{Recorder}
-use Rattle.lb_trace.specs.Mirrors.{add_by, start_cells}
-use Rattle.lb_trace.specs.Refusals.{is_last, is_trace_name, with_instant}
+use Rattle.lb_trace.specs.Mirrors.{add_by}
+use Rattle.lb_trace.specs.Refusals.{is_last, with_instant}
 use Rattle.lb_trace.specs.Spelling.{Instant, instants}
 use Rattle.lb_trace.proofs.Names.{bytes_eq-same, is_last-push}
 use Rattle.lb_trace.proofs.Soundness.{instants-push}
@@ -37,16 +35,10 @@ grown elements name traces next row good = by (is_last name traces) refl
   where
     by : (b : Bool) → is_last name traces ≡ b → next ≡ with_instant name row traces
     by true is =
-        ok_is (nat_lt (length (last_rows traces)) 1000000
-        && nat_le ((instants_of traces + 1) * cells_of_instant elements) 67108864)
-        (with_row traces row) next 18 (rw is at good)
+        ok_is _ _ _ _ (rw is at good)
         ∙ sym (ap (λ b. if b then with_row traces row else with_trace traces name row) is)
     by false is =
-        ok_is (nat_lt (length traces) 1000000
-        && nat_le ((instants_of traces + 1) * cells_of_instant elements) 67108864)
-        (with_trace traces name row) next 18
-        (started (not (is_trace_name name) || list_any (λ (t : Trace). bytes_eq name t.0) traces)
-        (start_cells elements name traces (Some row)) next (rw is at good))
+        ok_is _ _ _ _ (started _ _ _ (rw is at good))
         ∙ sym (ap (λ b. if b then with_row traces row else with_trace traces name row) is)
 
 -- `add_by` of a row adds this instant at the end

@@ -1,7 +1,7 @@
 -- `knows`: the names of the traces stay known while traces are added.
-use Rattle.std.proofs.Common.{ℕ, ◌≡◌, ◌+◌, ◌*◌, ◌<◌, ◌-◌, Bool, true, false, ◌&&◌, ◌||◌, List, []}
+use Rattle.std.proofs.Common.{ℕ, ◌≡◌, ◌+◌, ◌<◌, ◌-◌, Bool, true, false, ◌&&◌, ◌||◌, List, []}
 use Rattle.std.proofs.Common.{◌∷◌, ◌++◌, if◌then◌else◌, length, Option, Some, None, Result}
-use Rattle.std.proofs.Common.{Ok, Err, refl, sym, ap, ◌∙◌, subst, nat_le, nat_lt, arith, get_or}
+use Rattle.std.proofs.Common.{Ok, Err, refl, sym, ap, ◌∙◌, subst, arith, get_or}
 use Rattle.std.proofs.Common.{length-append}
 use Rattle.std.proofs.lemmas.Cmp.{nat_cmp_total, nat_list_cmp_total, on_total, then_total}
 use Rattle.std.proofs.lemmas.Cmp.{tied_itself}
@@ -14,8 +14,8 @@ use Rattle.std.proofs.Common.{Equal, Greater, Less, Ordering}
 use Rattle.std.specs.Ordering.{is_lt, nat_cmp, on, then_cmp}
 use Rattle.std.specs.Str.{bytes_eq}
 use Rattle.lb_static.specs.Signature.{Elements}
-use Rattle.lb_traces.specs.Traces.{Recording, Row, Trace, Traces, cells_of_instant, instants_of}
-use Rattle.lb_traces.specs.Traces.{last_rows, trace_at, trace_names, with_row, with_rows}
+use Rattle.lb_traces.specs.Traces.{Recording, Row, Trace, Traces}
+use Rattle.lb_traces.specs.Traces.{trace_at, trace_names, with_row, with_rows}
 use Rattle.lb_traces.specs.Traces.{with_trace}
 use Rattle.lb_traces.proofs.Recordings.{Front, front_of}
 use Rattle.lb_trace.specs.declared.seen_names.SeenNames.{SeenNames}
@@ -177,8 +177,7 @@ table-more old new traces name row n is table room put =
           (subst
           (HavePlaces old.places.items (contains_text old.others)
           (trace_names traces ++ name ∷ [])) (names_long traces ∙ sym is)
-          (have_more old.places.items (contains_text old.others) (trace_names traces) name
-          table.have)));
+          (have_more _ _ _ _ table.have)));
     })
 
 pub gathered-knows : (names : SeenNames) (traces : Traces) → names.rising ≡ false
@@ -245,10 +244,7 @@ pub go_on_by-knows : (names : SeenNames) (elements : Elements) (traces next : Tr
 go_on_by-knows names elements traces next None is known = cc is
 go_on_by-knows names elements traces next (Some row) is known =
     subst (knows names)
-    (ok_is (nat_lt (length (last_rows traces)) 1000000
-    && nat_le ((instants_of traces + 1) * cells_of_instant elements) 67108864)
-    (with_row traces row) next 18 is)
-    (knows-row names traces row known)
+    (ok_is _ _ _ _ is) (knows-row names traces row known)
 
 -- the names stay known after one more trace, if its name was taken
 pub start_cells-knows : (names : SeenNames) (elements : Elements) (name : List ℕ)
@@ -258,7 +254,4 @@ pub start_cells-knows : (names : SeenNames) (elements : Elements) (name : List �
 start_cells-knows names elements name traces next None is known = cc is
 start_cells-knows names elements name traces next (Some row) is known =
     subst (knows names)
-    (ok_is (nat_lt (length traces) 1000000
-    && nat_le ((instants_of traces + 1) * cells_of_instant elements) 67108864)
-    (with_trace traces name row) next 18 is)
-    (known row)
+    (ok_is _ _ _ _ is) (known row)

@@ -268,19 +268,6 @@ pub record IsSearched (text name : List ℕ) (start other : ℕ) : Type 0 where
   pub ordered : other ≤ start
   pub differs : 0 < other → (s : ℕ) → IsLineBefore text other s → cell_of (drop s text) ≢ name
 
--- the search begins at the last line, which has `name`, and at place 0
-pub searched_first : (text name : List ℕ) (place start : ℕ) → place ≤ length text
-    → IsLineBefore text place start → cell_of (drop start text) ≡ name
-    → IsSearched text name start 0
-searched_first text name place start within is named = record {
-  below = omega (arith, is.some, is.within);
-  filled = is.inside start (omega arith) is.some;
-  begun = is.begun;
-  named = named;
-  ordered = omega arith;
-  differs = λ some. absurd (omega (arith, some));
-}
-
 -- the search goes on from an earlier line with `name`
 pub searched_same : (text name : List ℕ) (start other place line : ℕ)
     → IsSearched text name start other → other < place → place ≤ start

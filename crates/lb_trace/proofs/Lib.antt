@@ -45,6 +45,9 @@ pub mod WordLanes
 pub mod LowestBits
 pub mod NumberEnds
 pub mod NumberWords
-pub mod FourNumbers
+pub mod ShortCells
+pub mod HeldParts
+pub mod FoundGroups
+pub mod FrontRows
 pub mod WrittenCells
 pub mod LastLines

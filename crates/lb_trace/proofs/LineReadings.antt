@@ -100,8 +100,7 @@ pub text-other :
     records_of text ≡ plain_records body → has_header elements (plain_records body) ≡ false →
     outcome elements text ≡ Err 14
 text-other elements text body short plain other =
-    outcome-records elements text (plain_records body) short plain
-    ∙ other_header elements (plain_records body) other
+    outcome-records _ _ _ short plain ∙ other_header elements (plain_records body) other
 
 -- the outcome of a text with a header is the reading of the records after it
 pub text-headed :
@@ -110,8 +109,7 @@ pub text-headed :
     plain_records body ≡ header ∷ plain_records rest → is_header elements header ≡ true →
     outcome elements text ≡ with_records elements (after_first header) [] (plain_records rest)
 text-headed elements text body rest header short plain begun headed =
-    outcome-records elements text (header ∷ plain_records rest) short (plain ∙ begun)
-    ∙ reading-rows elements header (plain_records rest) headed
+    outcome-records _ _ _ short (plain ∙ begun) ∙ reading-rows _ _ _ headed
 
 -- `text-headed` for the reading that begins with the empty recording `before`
 pub text-read :
@@ -123,7 +121,7 @@ pub text-read :
     with_records before.signature (after_first header) before.traces (plain_records rest) ≡ read →
     outcome elements text ≡ read
 text-read elements text body rest header before read short plain begun headed none good =
-    text-headed elements text body rest header short plain begun headed
+    text-headed _ _ _ _ _ short plain begun headed
     ∙ ap (λ (r : Recording). with_records r.signature (after_first header) r.traces
     (plain_records rest)) (sym none)
     ∙ good
@@ -142,7 +140,4 @@ text-refused elements text body rest header before e short plain begun headed no
     ⊎_elim (λ (h : error_number e ≡ 0). inl h)
     (λ (h : with_records before.signature (after_first header) before.traces (plain_records rest)
     ≡ Err (error_number e)).
-    refused elements text (error_number e)
-    (text-read elements text body rest header before (Err (error_number e)) short plain begun headed
-    none h))
-    bad
+    refused _ _ _ (text-read _ _ _ _ _ _ _ short plain begun headed none h)) bad

@@ -138,7 +138,7 @@ reads-round gives elements table most size ks read some each = (
       (λ (js : List ℕ). AreReadFrom gives elements table most js
       (flat_map (λ one. instants one.rows.traces) read))
       (chunks_of-concat size ks some)
-      (reads-spans gives elements table most (chunks_of size ks) read each),
+      (reads-spans _ _ _ _ _ _ each),
   zip-right (IsRead gives elements table most) (IsRecorder elements) (chunks_of size ks) read each
       (λ span one h. h.1),
 )

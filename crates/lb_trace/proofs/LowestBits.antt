@@ -1,5 +1,5 @@
 -- The lowest bit of a number that is set.
-use Rattle.std.proofs.Common.{ℕ, zero, suc, ◌≡◌, ◌+◌, ◌-◌, ◌/◌, ◌%◌, ◌^◌, ◌<◌, ◌≤◌, min, refl, sym}
+use Rattle.std.proofs.Common.{ℕ, zero, suc, ◌≡◌, ◌-◌, ◌/◌, ◌%◌, ◌^◌, ◌<◌, ◌≤◌, min, sym}
 use Rattle.std.proofs.Common.{ap, ap₂, ◌∙◌, arith}
 use Rattle.std.proofs.lemmas.Nat.Bits.{bit_at-suc, bit_at-trailing_zeros, bit_at_and}
 use Rattle.std.proofs.lemmas.Nat.Bits.{bit_at_lowest}
@@ -60,6 +60,6 @@ lowest bits some fits =
     record {
       set = found.1;
       below = found.2;
-      gone = λ i le. lowest-gone bits (count_trailing_zeros 64 bits) i found.1 found.2 le;
-      kept = λ i above. lowest-kept bits (count_trailing_zeros 64 bits) i found.1 found.2 above;
+      gone = λ i le. lowest-gone _ _ _ found.1 found.2 le;
+      kept = λ i above. lowest-kept _ _ _ found.1 found.2 above;
     }

@@ -14,19 +14,6 @@ use Rattle.lb_trace.specs.NamePlaces.{at_first, at_second, first_among, second_a
 same_name : (a b : List ℕ) → a ≡ b → bytes_eq a b ≡ true
 same_name a b is = (bytes_eq-Decides a b).1 is
 
--- a table whose places are all 0 holds no name yet
-pub no_places : (places : List ℕ) (has : List ℕ → Bool) (names : List (List ℕ)) →
-    ((i : ℕ) → get_or places i 0 ≡ 0) →
-    ((q : List ℕ) → has q ≡ true → list_any (bytes_eq q) names ≡ true) →
-    HavePlaces places has names 0
-no_places places has names none others = record {
-  within = λ i. omega (arith, none i);
-  first = λ k l. absurd (omega (arith, l));
-  second = λ k l. absurd (omega (arith, l));
-  found = λ k l. absurd (omega (arith, l));
-  others = others;
-}
-
 module _ (places : List ℕ) (has : List ℕ → Bool) (names : List (List ℕ)) (n : ℕ)
     (h : HavePlaces places has names n) where
   -- one more name gets a place that is free

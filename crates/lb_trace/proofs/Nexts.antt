@@ -126,9 +126,8 @@ pub bits-added : (elements : Elements) (columns : List Column) (count bits : ℕ
     → record_by elements columns count traces (record_of text)
     ≡ go_on_by elements traces (Some (row_of_bits (length elements) bits))
 bits-added elements columns count bits traces text name rest table spells next each =
-    let read = truths-read elements columns count bits rest table spells in
-    next-added elements columns count traces text name rest (row_of_bits (length elements) bits)
-    next each read.0 read.1
+    let read = truths-read _ _ _ _ _ table spells in
+    next-added _ _ _ _ _ _ _ _ next each read.0 read.1
 
 -- ## A table of Booleans
 

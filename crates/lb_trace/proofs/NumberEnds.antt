@@ -3,9 +3,8 @@ use Rattle.std.proofs.Common.{ℕ, zero, suc, ◌≡◌, ◌+◌, ◌-◌, ◌*�
 use Rattle.std.proofs.Common.{◌⊎◌, inl, inr, ⊎_elim, Bool, true, false, cond, not, min, List}
 use Rattle.std.proofs.Common.{length, get_or, map, take, refl, sym, ap, ◌∙◌, subst, arith}
 use Rattle.std.proofs.lemmas.Bool.{cases_lt}
-use Rattle.std.proofs.lemmas.Bool.Decides.{nat_tests}
 use Rattle.std.proofs.lemmas.List.{get_or-map, get_or-take, length-map, length-take-le}
-use Rattle.std.proofs.lemmas.Nat.Bits.{bit_at-suc, bit_at_and, bit_at_lowest, bit_at_not}
+use Rattle.std.proofs.lemmas.Nat.Bits.{bit_at-suc, bit_at_and, bit_at_not}
 use Rattle.std.proofs.lemmas.Nat.Bits.{bit_at-lt, bit_at_xor}
 use Rattle.std.proofs.lemmas.Simd.{bit_mask_l, mask_l-lt}
 use Rattle.std.specs.Char.{is_ascii_digit}
@@ -13,7 +12,7 @@ use Rattle.std.specs.Int.{bit_at, bit_not, w64}
 use lib.Bits.{bit_and, bit_xor}
 use lib.Lanes.{mask_l}
 use Rattle.lb_trace.specs.Fronts.{others}
-use Rattle.lb_trace.specs.Numbers.{IsInside, IsNumberIn, digits_from}
+use Rattle.lb_trace.specs.Numbers.{IsInside, IsNumberIn}
 use Rattle.lb_trace.proofs.SmallNumbers.{equal-from}
 
 -- ## The bits of masks
@@ -92,7 +91,7 @@ inside-from text o m i long is minus below none =
       not-false (is_ascii_digit (get_or text (i + 1) 0)) (is-clear (other (get_or text (i + 1) 0))
           (sym next ∙ omega (arith, turned, all.2))),
     ))
-    (cleared (bit_at o i) (bit_at m i) (bit_at (2 * o + 1) i) (bit_at (bit_not w64 (o / 2)) i)
+    (cleared _ _ _ _
     (bit_at-lt o i) (bit_at-lt m i) (bit_at-lt (2 * o + 1) i) (bit_at-lt (bit_not w64 (o / 2)) i)
     (sym both ∙ none))
   where

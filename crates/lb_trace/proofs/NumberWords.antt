@@ -1,15 +1,14 @@
 -- The bytes of a cell as the highest bytes of a word, and the value of the cell.
 use Rattle.std.proofs.Common.{ℕ, zero, suc, ◌≡◌, ◌+◌, ◌-◌, ◌*◌, ◌%◌, ◌^◌, ◌<◌, ◌≤◌, ◌==◌, ◌||◌}
-use Rattle.std.proofs.Common.{nat_le, ◌⊎◌, inl, inr, ⊎_elim, Bool, true, false, List, [], ◌∷◌, ◌++◌}
-use Rattle.std.proofs.Common.{length, get_or, map, take, drop, replicate, All, Fits, w8, ℤ, pos}
+use Rattle.std.proofs.Common.{nat_le, ⊎_elim, Bool, true, false, List, [], ◌∷◌, ◌++◌}
+use Rattle.std.proofs.Common.{length, get_or, map, take, drop, replicate, All, Fits, w8}
 use Rattle.std.proofs.Common.{Some, refl, sym, ap, ◌∙◌, subst, arith, length-drop}
 use Rattle.std.proofs.lemmas.Bool.Decides.{nat_tests}
-use Rattle.std.proofs.lemmas.List.{drop_more, get_or-drop, get_or-take, length-take-le, map-append}
+use Rattle.std.proofs.lemmas.List.{drop_more, get_or-drop, get_or-take, length-take-le}
 use Rattle.std.proofs.lemmas.List.Elements.{All-append, All-from_get_or, All-replicate}
 use Rattle.std.proofs.lemmas.List.Folds.{fold-map}
 use Rattle.std.specs.Char.{is_ascii_digit}
-use Rattle.std.specs.List.{fold, list_all, list_any}
-use Rattle.std.specs.Prelude.{neg_ℤ}
+use Rattle.std.specs.List.{list_all, list_any}
 use lib.Lanes.{number_l}
 use mir.Val.{bool_byte}
 use Rattle.lb_syntax.specs.declared.tree.Kind.TheVariants as kind
@@ -23,7 +22,6 @@ use Rattle.lb_trace.specs.WordValues.{eight_of, has_minus, signed_by, value_in}
 use Rattle.lb_trace.proofs.FoundNumbers.{number-begins}
 use Rattle.lb_trace.proofs.Fronts.{digit-least}
 use Rattle.lb_trace.proofs.JoinedDigits.{bytes-eight, digits-small, eight-front}
-use Rattle.lb_trace.proofs.NumberEnds.{differ, no-digit}
 use Rattle.lb_trace.proofs.SmallNumbers.{below, equal-from}
 
 -- ## The bytes of a word
@@ -45,7 +43,8 @@ module _ (a b c d e f g h x : ℕ) (rest : List ℕ)
       let moved : x * 72057594037927936 % 18446744073709551616
       ≡ 72057594037927936 * (a) = omega arith in
       bytes-eight 0 0 0 0 0 0 0 a _ (omega (arith, moved))
-      (omega arith) (omega arith) (omega arith) (omega arith) (omega arith) (omega arith) (omega arith) la
+      (omega arith) (omega arith) (omega arith) (omega arith) (omega arith) (omega arith)
+      (omega arith) la
 
   two-moved : IsMoved 2 text x
   two-moved =
@@ -85,7 +84,8 @@ module _ (a b c d e f g h x : ℕ) (rest : List ℕ)
   seven-moved : IsMoved 7 text x
   seven-moved =
       let moved : x * 256 % 18446744073709551616
-      ≡ 256 * (a + 256 * (b + 256 * (c + 256 * (d + 256 * (e + 256 * (f + 256 * g)))))) = omega arith in
+      ≡ 256 * (a + 256 * (b + 256 * (c + 256 * (d + 256 * (e + 256 * (f + 256 * g)))))) =
+      omega arith in
       bytes-eight 0 a b c d e f g _ (omega (arith, moved))
       (omega arith) la lb lc ld le lf lg
 
@@ -110,14 +110,17 @@ moved a b c d e f g h x (suc (suc (suc (suc zero)))) rest some few is la lb lc l
     four-moved a b c d e f g h x rest is la lb lc ld le lf lg lh
 moved a b c d e f g h x (suc (suc (suc (suc (suc zero))))) rest some few is la lb lc ld le lf lg lh =
     five-moved a b c d e f g h x rest is la lb lc ld le lf lg lh
-moved a b c d e f g h x (suc (suc (suc (suc (suc (suc zero)))))) rest some few is la lb lc ld le lf lg lh =
-    six-moved a b c d e f g h x rest is la lb lc ld le lf lg lh
-moved a b c d e f g h x (suc (suc (suc (suc (suc (suc (suc zero))))))) rest some few is la lb lc ld le lf lg lh =
-    seven-moved a b c d e f g h x rest is la lb lc ld le lf lg lh
-moved a b c d e f g h x (suc (suc (suc (suc (suc (suc (suc (suc zero)))))))) rest some few is la lb lc ld le lf lg lh =
-    eight-moved a b c d e f g h x rest is la lb lc ld le lf lg lh
-moved a b c d e f g h x (suc (suc (suc (suc (suc (suc (suc (suc (suc n))))))))) rest some few is la lb lc ld le lf
+moved a b c d e f g h x (suc (suc (suc (suc (suc (suc zero)))))) rest some few is la lb lc ld le lf
     lg lh =
+    six-moved a b c d e f g h x rest is la lb lc ld le lf lg lh
+moved a b c d e f g h x (suc (suc (suc (suc (suc (suc (suc zero))))))) rest some few is la lb lc ld
+    le lf lg lh =
+    seven-moved a b c d e f g h x rest is la lb lc ld le lf lg lh
+moved a b c d e f g h x (suc (suc (suc (suc (suc (suc (suc (suc zero)))))))) rest some few is la lb
+    lc ld le lf lg lh =
+    eight-moved a b c d e f g h x rest is la lb lc ld le lf lg lh
+moved a b c d e f g h x (suc (suc (suc (suc (suc (suc (suc (suc (suc n))))))))) rest some few is la
+    lb lc ld le lf lg lh =
     absurd (omega (arith, few))
 
 -- `IsMoved` for the number that is made of the first eight bytes of a text
@@ -317,14 +320,13 @@ word-begins text start end word last long within number is stop =
     let few : count ≤ 8 = omega (arith, sign, short) in
     let least : eight_of word < 100000000 =
     subst (λ n. n < 100000000) (sym spelled)
-    (below (decimal (take count (drop from text))) count 8 small few) in
+    (below _ _ _ small few) in
     let value : signed minus (eight_of word) ≡ Some (value_in word) =
     signed-small minus (eight_of word) least
     ∙ ap (λ b. Some (signed_by b (eight_of word)))
     (sym (word-minus text start end word (omega (arith, long, within)) some number is)) in
     subst (λ p. BeginsWith kind.Int (drop start text) (value_in word) (drop (p + 1) text) last) past
-    (number-begins text start (bool_byte minus) count (eight_of word) (value_in word) last long refl
-    (omega (arith, past, within)) (omega (arith, more)) few
+    (number-begins _ _ _ _ _ _ _ long refl (omega (arith, past, within)) (omega (arith, more)) few
     (subst (λ p. list_all is_ascii_digit (take count (drop p text)) ≡ true) (sym sign) all)
     (spelled ∙ ap (λ p. decimal (take count (drop p text))) (sym sign))
     (subst (λ n. n < 10 ^ count) (sym spelled) small)

@@ -23,7 +23,7 @@ one_more_in_order table i d within ordered is =
     let size : length (take i table) ≡ i = length-take-le i table (omega arith) in
     let place : i ≡ 0 + length (take i table) = omega (arith, size) in
     subst (AreInOrder 0) (sym (take_more table i d within))
-    (in_order_push 0 (take i table) (get_or table i d) ordered (is ∙ place))
+    (in_order_push _ _ _ ordered (is ∙ place))
 
 -- the first `i + 1` columns have their places where the first `i` and the next have
 pub one_more_placed :

@@ -64,8 +64,7 @@ complete_records elements traces (header ∷ rows) spelled lawful =
 pub complete_text : (elements : Elements) (text : List ℕ) (traces : Traces)
     → Spells elements text traces → outcome elements text ≡ Ok traces
 complete_text elements text traces spells =
-    outcome-records elements text (records_of text) spells.short refl
-    ∙ complete_records elements traces (records_of text) spells.spelled spells.lawful
+    outcome-records _ _ _ spells.short refl ∙ complete_records _ _ _ spells.spelled spells.lawful
 
 either_header : (b : Bool) (elements : Elements) (header : Record) (rows : List Record)
     (traces : Traces) → is_header elements header ≡ b
@@ -88,14 +87,14 @@ sound_records : (elements : Elements) (traces : Traces) (records : List Record)
 unfolding reading
 sound_records elements traces [] read = cc read
 sound_records elements traces (header ∷ rows) read =
-    either_header (is_header elements header) elements header rows traces refl read
+    either_header _ _ _ _ _ refl read
 
 either_long : (b : Bool) (elements : Elements) (text : List ℕ) (traces : Traces)
     → nat_le (length text) 1073741824 ≡ b
     → (if b then reading elements (records_of text) else Err 18) ≡ Ok traces
     → Spells elements text traces
 either_long true elements text traces fits read =
-    let parts = sound_records elements traces (records_of text) read in
+    let parts = sound_records _ _ _ read in
     record { short = leb-true (length text) 1073741824 fits; spelled = parts.0; lawful = parts.1 }
 either_long false elements text traces fits read = cc read
 
@@ -104,7 +103,7 @@ pub sound_text : (elements : Elements) (text : List ℕ) (traces : Traces)
     → outcome elements text ≡ Ok traces → Spells elements text traces
 unfolding outcome
 sound_text elements text traces read =
-    either_long (nat_le (length text) 1073741824) elements text traces refl read
+    either_long _ _ _ _ refl read
 
 -- a text that is refused spells no traces
 pub refused_text : (elements : Elements) (text : List ℕ) (number : ℕ)

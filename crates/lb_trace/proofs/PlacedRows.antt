@@ -62,7 +62,7 @@ values_of (column ∷ placed) (cell ∷ cells) values read =
     (record {
       wide = ap suc rest.wide;
       full = ap suc rest.full;
-      each = one_more column placed cell cells v more first rest.each;
+      each = one_more _ _ _ _ _ _ first rest.each;
     }))
 
 -- the row of a record has, for each column of the table, the value at the place of the column
@@ -113,7 +113,7 @@ pub ordered_line : {E : Type 0} (r : Result (Option ℕ) E)
     × (row_by table (record_of text) ≡ Some row) × EndsRecord text past))
 ordered_line (Ok None) table columns width text row same ordered read = tt
 ordered_line (Ok (Some past)) table columns width text row same ordered read =
-    ordered_found table width text row past ordered
+    ordered_found _ _ _ _ _ ordered
     (ap (λ cs. plain_row cs (record_of text)) (sym same) ∙ read.0, read.1)
 ordered_line (Err e) table columns width text row same ordered read = tt
 

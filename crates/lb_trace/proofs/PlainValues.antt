@@ -52,8 +52,7 @@ row-step columns i d k text v row h is e =
     ap (λ ks. onto row (plain_row ks (record_of text)))
     (drop_more columns i d h ∙ ap (λ x. x ∷ drop (i + 1) columns) (sym is))
     ∙ ap (λ cells. onto row (plain_row (k ∷ drop (i + 1) columns) cells)) (record-cell text)
-    ∙ row-cell (drop (i + 1) columns) k (cell_of text)
-    (if is_last_cell text then [] else record_of (after_cell text)) v row e
+    ∙ row-cell _ _ _ _ _ _ e
 
 pub row-more : (columns : List Column) (i : ℕ) (d k : Column) (text rest : List ℕ) (v : ℤ)
     (row : List ℤ) (is_last : Bool) → i < length columns → k ≡ get_or columns i d
@@ -63,8 +62,7 @@ pub row-more : (columns : List Column) (i : ℕ) (d k : Column) (text rest : Lis
 unfolding cells_after
 row-more columns i d k text rest v row is_last h is b e =
     let inner : is_last_cell text ≡ false = sym b.2 ∙ e in
-    row-step columns i d k text v row h is b.0
-    ∙ ap (λ t. onto (row ++ v ∷ [])
+    row-step _ _ _ _ _ _ _ h is b.0 ∙ ap (λ t. onto (row ++ v ∷ [])
     (plain_row (drop (i + 1) columns) (if t then [] else record_of (after_cell text)))) inner
     ∙ ap (λ t. onto (row ++ v ∷ []) (plain_row (drop (i + 1) columns) (record_of t))) (sym b.1)
 
@@ -76,8 +74,7 @@ row-last : (columns : List Column) (i : ℕ) (d k : Column) (text rest : List �
 unfolding cells_after
 row-last columns i d k text rest v row is_last h is b e =
     let end : is_last_cell text ≡ true = sym b.2 ∙ e in
-    row-step columns i d k text v row h is b.0
-    ∙ ap (λ t. onto (row ++ v ∷ [])
+    row-step _ _ _ _ _ _ _ h is b.0 ∙ ap (λ t. onto (row ++ v ∷ [])
     (plain_row (drop (i + 1) columns) (if t then [] else record_of (after_cell text)))) end
 
 pub row-full : (columns : List Column) (i : ℕ) (d k : Column) (text rest : List ℕ) (v : ℤ)
@@ -86,7 +83,7 @@ pub row-full : (columns : List Column) (i : ℕ) (d k : Column) (text rest : Lis
     → onto row (plain_row (drop i columns) (record_of text)) ≡ Some (row ++ v ∷ [])
 unfolding plain_row
 row-full columns i d k text rest v row is_last h is b e all =
-    row-last columns i d k text rest v row is_last h is b e
+    row-last _ _ _ _ _ _ _ _ _ h is b e
     ∙ ap (λ ks. onto (row ++ v ∷ []) (plain_row ks [])) (drop_all (i + 1) columns (omega arith))
     ∙ ap Some (append-nil (row ++ v ∷ []))
 
@@ -96,7 +93,7 @@ pub row-short : (columns : List Column) (i : ℕ) (d k : Column) (text rest : Li
     → onto row (plain_row (drop i columns) (record_of text)) ≡ None
 unfolding plain_row
 row-short columns i d k text rest v row is_last h is b e more =
-    row-last columns i d k text rest v row is_last h is b e
+    row-last _ _ _ _ _ _ _ _ _ h is b e
     ∙ ap (λ ks. onto (row ++ v ∷ []) (plain_row ks [])) (drop_more columns (i + 1) k more)
 
 -- a record has no row where no column is left for its cells
@@ -129,9 +126,6 @@ begins-from k text bytes rest v is_last b e r l = (sym (e ∙ ap (cell_value k) 
 pub pushed-value : (rows row : List ℤ) (v : ℤ) → SFits w32 v
     → rows ≡ row ++ to_z w32 (of_z w32 v) ∷ [] → rows ≡ row ++ v ∷ []
 pushed-value rows row v fits e = e ∙ ap (λ x. row ++ x ∷ []) (to_z-of_z w32 v fits)
-
-pub onto-start : (row : List ℤ) (more : Option (List ℤ)) → row ≡ [] → more ≡ onto row more
-onto-start row more e = sym (ap (λ r. onto r more) e ∙ onto-nil more)
 
 pub after-more : (k : Kind) (text rest : List ℕ) (v : ℤ) (is_last : Bool)
     → BeginsWith k text v rest is_last → is_last ≡ false → after_line text ≡ after_line rest

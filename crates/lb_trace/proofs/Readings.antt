@@ -53,13 +53,13 @@ pub reaches-end : (text : List ℕ) (records : List Record) (a b : TextReader) (
     → Reaches text records a
     → ReadRecord left a b false fields → records_of text ≡ records
 reaches-end text records a b fields at read =
-    reached_all text at.rest a.state records at.reached
+    reached_all _ _ _ _ at.reached
     (rows-end left a b fields default_config at.rest at.config at.source read)
 
 pub reaches-first : (text : List ℕ) (records : List Record) (a : TextReader)
     → Reaches text records a
     → (more : List Record) × (records_of text ≡ records ++ more)
-reaches-first text records a at = reached_first text at.rest a.state records at.reached
+reaches-first text records a at = reached_first _ _ _ _ at.reached
 
 -- the row that is read by the table is the row that is spelled
 row_by-table : (elements : Elements) (columns cells : Record)
@@ -102,11 +102,7 @@ pub with_records-append : (elements : Elements) (columns : Record) (before : Tra
 unfolding with_records
 with_records-append elements columns before [] more = refl
 with_records-append elements columns before (r ∷ some) more =
-    then_both (with_record elements columns before r)
-    (λ further. with_records elements columns further (some ++ more))
-    (λ further. with_records elements columns further some)
-    (λ traces. with_records elements columns traces more)
-    (λ further. with_records-append elements columns further some more)
+    then_both _ _ _ _ (λ further. with_records-append elements columns further some more)
 
 -- one more row of the last trace is one more instant
 count_row : (traces : Traces) (row : Row) → 0 < length traces
@@ -203,8 +199,7 @@ pub progress-end : (elements : Elements) (text : List ℕ) (header : Record) (tr
     → is_header elements header ≡ true
     → records_of text ≡ header ∷ at.rows → outcome elements text ≡ Ok traces
 progress-end elements text header traces a number at short headed all =
-    outcome-records elements text (header ∷ at.rows) short all
-    ∙ reading-rows elements header at.rows headed ∙ at.read
+    outcome-records _ _ _ short all ∙ reading-rows _ _ _ headed ∙ at.read
 
 -- the refusal of one more record is the outcome of the text
 pub progress-bad : (elements : Elements) (text : List ℕ) (header : Record) (traces : Traces)
@@ -216,10 +211,10 @@ pub progress-bad : (elements : Elements) (text : List ℕ) (header : Record) (tr
     → outcome elements text ≡ Err n
 unfolding with_records
 progress-bad elements text header traces a b number n fields at short headed further bad =
-    let rest = reaches-first text ((header ∷ at.rows) ++ fields ∷ []) b further in
-    outcome-records elements text (header ∷ (at.rows ++ fields ∷ rest.0)) short
+    let rest = reaches-first _ _ _ further in
+    outcome-records _ _ _ short
     (rest.1 ∙ ap (λ rs. header ∷ rs) (append_assoc at.rows (fields ∷ []) rest.0))
-    ∙ reading-rows elements header (at.rows ++ fields ∷ rest.0) headed
+    ∙ reading-rows _ _ _ headed
     ∙ with_records-append elements (after_first header) [] at.rows (fields ∷ rest.0)
     ∙ ap (then_read (λ t. with_records elements (after_first header) t (fields ∷ rest.0))) at.read
     ∙ ap (then_read (λ t. with_records elements (after_first header) t rest.0)) bad
@@ -235,8 +230,7 @@ pub other_header : (elements : Elements) (text : List ℕ) (header : Record) (b 
     → is_header elements header ≡ false → outcome elements text ≡ Err 14
 other_header elements text header b at short other =
     let rest = reaches-first text (header ∷ []) b at in
-    outcome-records elements text (header ∷ rest.0) short rest.1
-    ∙ reading-other elements header rest.0 other
+    outcome-records _ _ _ short rest.1 ∙ reading-other elements header rest.0 other
 
 -- a refusal `n` of a text is one of a text that spells no traces
 pub refused : (elements : Elements) (text : List ℕ) (n : ℕ) → outcome elements text ≡ Err n
@@ -287,7 +281,7 @@ pub added : (r : Recording) (elements : Elements) (columns : Record) (table : Li
     → record_by r.signature table width r.traces fields ≡ outcome_is
     → with_record elements columns r.traces fields ≡ outcome_is
 added r elements columns table width fields outcome_is same is wide by =
-    sym (record_by-table elements columns table width r.traces fields is wide)
+    sym (record_by-table _ _ _ _ _ _ is wide)
     ∙ ap (λ e. record_by e table width r.traces fields) (sym same) ∙ by
 
 -- a refusal of one more record by the table is the refusal of the text

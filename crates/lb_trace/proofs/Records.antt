@@ -115,9 +115,5 @@ pub reached_all : (text ys : List ℕ) (s : State) (rows : List Record)
     → next_record default_config s [] [] ys ≡ None → records_of text ≡ rows
 unfolding records_of
 reached_all text ys s rows reached none =
-    split default_config (length (strip_bom text) + 1) st.StartRecord s (strip_bom text) ys rows
-    reached
-    (few default_config st.StartRecord s (strip_bom text) ys rows reached)
-    ∙ ap (λ more. rows ++ more)
-    (none_left default_config (length (strip_bom text) + 1 - length rows) s ys none)
-    ∙ append-nil rows
+    split _ _ _ _ _ _ _ reached (few _ _ _ _ _ _ reached) ∙ ap (λ more. rows ++ more)
+    (none_left _ _ _ _ none) ∙ append-nil rows

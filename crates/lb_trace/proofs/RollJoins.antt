@@ -65,10 +65,9 @@ taken_one_more before other roll next k below taken takes elements traces others
     taken_more before roll next set k more.lawful (omega (arith, below, count))
     (λ ts is. taken elements ts others is more)
     (subst (λ name. TakesTrace roll name (length (trace_at others k).1) next)
-    (name_at elements other others k more below)
+    (name_at _ _ _ _ more below)
     (subst (λ n. TakesTrace roll (trace_at other.names.traces k).0 n next)
-    (length_at elements other others k more below) takes))
-    traces of
+    (length_at _ _ _ _ more below) takes)) traces of
 
 -- the refusal of trace `k` is the refusal of the whole roll `other`
 pub refuses_roll : (before other roll : Roll) (k : ℕ) (e : TraceError)
@@ -83,7 +82,6 @@ refuses_roll before other roll k e below taken refused =
     refuses_rows before roll set k e more.lawful (omega (arith, below, count))
     (λ ts is. taken elements ts others is more)
     (subst (λ name. RefusesTrace roll name (length (trace_at others k).1) e)
-    (name_at elements other others k more below)
+    (name_at _ _ _ _ more below)
     (subst (λ n. RefusesTrace roll (trace_at other.names.traces k).0 n e)
-    (length_at elements other others k more below) refused))
-    columns traces records of spelled
+    (length_at _ _ _ _ more below) refused)) columns traces records of spelled

@@ -36,9 +36,7 @@ by_table : (elements : Elements) (table : ColumnTable) (traces : Traces) (r : Re
     → IsRefusal (with_record elements (columns_in table) traces r) e
 by_table elements table traces r e is bad =
     subst (λ o. IsRefusal o e)
-    (record_by-table elements (columns_in table) table.columns.items table.count traces r
-    is.columns is.count)
-    bad
+    (record_by-table _ _ _ _ _ _ is.columns is.count) bad
 
 -- `record_by` of a record of another length is 15
 record_by-wide : (elements : Elements) (table : List Column) (width : ℕ) (traces : Traces)
@@ -57,9 +55,7 @@ pub no_cell_refused : (elements : Elements) (table : ColumnTable) (traces : Trac
     → IsColumnTable elements table → field_at r 0 ≡ None → error_number e ≡ 15
     → IsRefusal (with_record elements (columns_in table) traces r) e
 no_cell_refused elements table traces r e is none number =
-    by_table elements table traces r e is
-    (inr (record_by-none elements table.columns.items table.count traces r none
-    ∙ ap Err (sym number)))
+    by_table _ _ _ _ _ is (inr (record_by-none _ _ _ _ _ none ∙ ap Err (sym number)))
 
 -- a record with more cells than the header, or fewer, is refused with 15
 pub width_refused : (elements : Elements) (table : ColumnTable) (traces : Traces) (r : Record)
@@ -67,9 +63,7 @@ pub width_refused : (elements : Elements) (table : ColumnTable) (traces : Traces
     → IsColumnTable elements table → length (after_first r) ≢ table.count → error_number e ≡ 15
     → IsRefusal (with_record elements (columns_in table) traces r) e
 width_refused elements table traces r e is other number =
-    by_table elements table traces r e is
-    (inr (record_by-wide elements table.columns.items table.count traces r other
-    ∙ ap Err (sym number)))
+    by_table _ _ _ _ _ is (inr (record_by-wide _ _ _ _ _ other ∙ ap Err (sym number)))
 
 -- a record of the last trace is refused where `go_on_by` refuses its row
 pub more_refused : (roll : Roll) (elements : Elements) (table : ColumnTable) (traces : Traces)
@@ -80,11 +74,8 @@ pub more_refused : (roll : Roll) (elements : Elements) (table : ColumnTable) (tr
     → IsRefusal (go_on_by elements traces (row_by table.columns.items (after_first r))) e
     → IsRefusal (with_record elements (columns_in table) traces r) e
 more_refused roll elements table traces r name e of is found wide last bad =
-    by_table elements table traces r e is
-    (subst (λ o. IsRefusal o e)
-    (sym (record_by-last elements table.columns.items table.count traces r name found wide
-    of.lawful.each (same_last name traces roll.names.traces (sym of.names) ∙ last)))
-    bad)
+    by_table _ _ _ _ _ is (subst (λ o. IsRefusal o e) (sym (record_by-last _ _ _ _ _ _ found wide
+    of.lawful.each (same_last _ _ _ (sym of.names) ∙ last))) bad)
 
 -- a record of another trace is refused where `start_by` refuses its row
 pub first_refused : (roll : Roll) (elements : Elements) (table : ColumnTable) (traces : Traces)
@@ -95,11 +86,8 @@ pub first_refused : (roll : Roll) (elements : Elements) (table : ColumnTable) (t
     → IsRefusal (start_by elements name traces (row_by table.columns.items (after_first r))) e
     → IsRefusal (with_record elements (columns_in table) traces r) e
 first_refused roll elements table traces r name e of is found wide other bad =
-    by_table elements table traces r e is
-    (subst (λ o. IsRefusal o e)
-    (sym (record_by-other elements table.columns.items table.count traces r name found wide
-    (same_last name traces roll.names.traces (sym of.names) ∙ other)))
-    bad)
+    by_table _ _ _ _ _ is (subst (λ o. IsRefusal o e) (sym (record_by-other _ _ _ _ _ _ found wide
+    (same_last _ _ _ (sym of.names) ∙ other))) bad)
 
 -- ## Cells and room
 

@@ -101,7 +101,7 @@ grown_roll_of roll next elements traces t name count of is new few more =
       is = grown_roll roll next name count of.is more;
       lawful = IsRecording-more elements traces t of.lawful is.0
           (ap (λ n. list_any (λ (u : Trace). bytes_eq n u.0) traces) is.1
-          ∙ same_any name traces roll.names.traces (sym of.names) ∙ new)
+          ∙ same_any _ _ _ (sym of.names) ∙ new)
           (subst (λ n. n < 1000000) (same_count roll.names.traces traces of.names) few)
           (subst (λ n. (instants_of traces + n) * cells_of_instant elements ≤ 67108864)
           (sym is.2)
@@ -143,12 +143,10 @@ refuses_name roll name count e number found other =
     let there : list_any (λ (u : Trace). bytes_eq name u.0) roll.names.traces ≡ true =
     there_from (is_trace_name name)
     (list_any (λ (u : Trace). bytes_eq name u.0) roll.names.traces) lawful found in
-    inr (name_there elements columns traces t records is.0 spelled
+    inr (name_there _ _ _ _ _ is.0 spelled
     (ap (λ n. list_any (λ (u : Trace). bytes_eq n u.0) traces) is.1
-    ∙ same_any name traces roll.names.traces (sym of.names) ∙ there)
-    (ap (λ n. is_last n traces) is.1
-    ∙ same_last name traces roll.names.traces (sym of.names) ∙ other)
-    ∙ ap Err (sym number))
+    ∙ same_any _ _ _ (sym of.names) ∙ there) (ap (λ n. is_last n traces) is.1
+    ∙ same_last _ _ _ (sym of.names) ∙ other) ∙ ap Err (sym number))
 
 and-there : (a b : Bool) → b ≡ true → (a && not b) ≡ false
 and-there true true is = refl
@@ -178,7 +176,7 @@ new_name : (roll : Roll) (elements : Elements) (traces : Traces) (t : Trace) (na
     → list_any (λ u. bytes_eq t.0 u.0) traces ≡ false
 new_name roll elements traces t name count of is new =
     ap (λ n. list_any (λ (u : Trace). bytes_eq n u.0) traces) is.1
-    ∙ same_any name traces roll.names.traces (sym of.names) ∙ new
+    ∙ same_any _ _ _ (sym of.names) ∙ new
 
 -- a trace with a new name is refused with 18 where the roll has no room for a trace
 pub refuses_count : (roll : Roll) (name : List ℕ) (count : ℕ) (e : TraceError)
@@ -188,7 +186,7 @@ pub refuses_count : (roll : Roll) (name : List ℕ) (count : ℕ) (e : TraceErro
 refuses_count roll name count e number new full =
     λ elements columns traces t records of is spelled.
     let free = new_name roll elements traces t name count of is new in
-    inr (one_too_many elements columns traces t records is.0 spelled
+    inr (one_too_many _ _ _ _ _ is.0 spelled
     (comes_back-none t.0 traces free) (is_last-none t.0 traces free)
     (ap (λ n. nat_lt n 1000000) (sym (same_count roll.names.traces traces of.names)) ∙ full)
     ∙ ap Err (sym number))
@@ -270,10 +268,9 @@ refuses_rows before roll set k e lawful below taken refused =
     zip_cut R one.second (named t) (instants (drop (k + 1) set.traces)) one.other in
     let behind : IsRollOf elements roll (traces ++ front) = taken traces of in
     let read : with_records elements columns traces one.first ≡ Ok (traces ++ front) =
-    complete elements columns traces front one.first behind.lawful one.one in
+    complete _ _ _ _ _ behind.lawful one.one in
     let bad : IsRefusal (with_records elements columns (traces ++ front) two.first) e =
-    refused elements columns (traces ++ front) t two.first behind
-    (lawful.each k ([], []) below, refl, refl) two.one in
+    refused _ _ _ t two.first behind (lawful.each k ([], []) below, refl, refl) two.one in
     let last : IsRefusal (with_records elements columns (traces ++ front) one.second) e =
     subst (λ rs. IsRefusal (with_records elements columns (traces ++ front) rs) e) (sym two.is)
     (first_refused elements columns (traces ++ front) two.first two.second e bad) in

@@ -226,12 +226,12 @@ too_many elements columns before t records lawful spelled back past =
     (λ (h : (after : Traces) × (with_records elements columns before records ≡ Ok after)).
     absurd (full h.0 h.1))
     (λ (h : with_records elements columns before records ≡ Err 18). h)
-    (fits elements columns before t.0 t.1 records spelled back)
+    (fits _ _ _ _ _ _ spelled back)
   where
     full : (after : Traces) → with_records elements columns before records ≡ Ok after → ⊥
     full after read =
         let s : Sound elements columns before after records =
-        sound elements columns before after records lawful read in
+        sound _ _ _ _ _ lawful read in
         let named : Row → Instant = λ row. (t.0, row) in
         let count : length s.more ≡ length t.1 =
         sym (zip_length (SpellsInstant elements columns) records s.more s.spelled)

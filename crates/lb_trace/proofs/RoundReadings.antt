@@ -1,7 +1,6 @@
 -- The progress of the reading of the records of a text.
 use Rattle.std.proofs.Common.{ℕ, ◌≡◌, ◌==◌, true, false, List, [], ◌∷◌, ◌++◌, length, map, Ok, refl}
 use Rattle.std.proofs.Common.{sym, ap, ◌∙◌, append_assoc, subst, Some, None}
-use Rattle.std.proofs.lemmas.List.{append-nil}
 use Rattle.csv.specs.Records.{field_at}
 use Rattle.lb_static.specs.Signature.{Elements}
 use Rattle.lb_traces.specs.Traces.{Traces}
@@ -13,10 +12,10 @@ use Rattle.lb_trace.specs.Mirrors.{column_of, record_by}
 use Rattle.lb_trace.specs.Plain.{plain_records}
 use Rattle.lb_trace.specs.Refusals.{is_last, then_read, with_record, with_records}
 use Rattle.lb_trace.specs.RoundReaders.{goes_on}
-use Rattle.lb_trace.specs.Rounds.{ReadsUpTo, StopsAt}
+use Rattle.lb_trace.specs.Rounds.{ReadsUpTo}
 use Rattle.lb_trace.specs.Scan.{begun_records}
 use Rattle.lb_trace.specs.Spelling.{Record}
-use Rattle.lb_trace.proofs.PlainRecordings.{begun-more, begun-none}
+use Rattle.lb_trace.proofs.PlainRecordings.{begun-more}
 use Rattle.lb_trace.proofs.Readings.{record_by-table, with_records-append}
 
 -- nothing of a text has been read at its start
@@ -51,31 +50,6 @@ reads-more elements columns table width first traces next text rest begun after 
           ∙ sym (append_assoc so_far.done (r ∷ []) (plain_records after));
     }
 
--- all records were read where the rest has none
-pub reads-end :
-    (elements : Elements) (columns : Record) (first traces : Traces) (text rest begun : List ℕ) →
-    ReadsUpTo elements columns first traces text rest →
-    plain_records rest ≡ begun_records begun → (length begun == 0) ≡ true →
-    with_records elements columns first (plain_records text) ≡ Ok traces
-reads-end elements columns first traces text rest begun so_far skipped none =
-    ap (with_records elements columns first)
-    (so_far.cut ∙ ap (λ rs. so_far.done ++ rs) (skipped ∙ begun-none begun none)
-    ∙ append-nil so_far.done)
-    ∙ so_far.read
-
--- the reading stops at the record that is not added
-pub reads-stop :
-    (elements : Elements) (columns : Record) (first traces : Traces) (text rest begun : List ℕ) →
-    ReadsUpTo elements columns first traces text rest →
-    plain_records rest ≡ begun_records begun → (length begun == 0) ≡ false →
-    StopsAt elements columns first traces text begun
-reads-stop elements columns first traces text rest begun so_far skipped some = record {
-  done = so_far.done;
-  read = so_far.read;
-  cut = so_far.cut ∙ ap (λ rs. so_far.done ++ rs) skipped;
-  some = some;
-}
-
 -- a refusal by the table is the refusal of the record
 pub reads-refused :
     (elements : Elements) (columns : Record) (table : List Column) (width : ℕ)
@@ -85,7 +59,7 @@ pub reads-refused :
     IsRefusal (with_record elements columns after r) e
 reads-refused elements columns table width before after r e same wide kept bad =
     subst (λ o. IsRefusal o e)
-    (record_by-table elements columns table width before r same wide
+    (record_by-table _ _ _ _ _ _ same wide
     ∙ ap (λ traces. with_record elements columns traces r) (sym kept))
     bad
 

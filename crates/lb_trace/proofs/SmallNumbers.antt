@@ -52,8 +52,7 @@ number-spelled : (digits : List ℕ) (n : ℕ) → 0 < length digits → length 
     → list_all is_ascii_digit digits ≡ true → n ≡ decimal digits
     → natural_of digits ≡ Some n
 number-spelled digits n some few all e =
-    let test = and-all (nat_le 1 (length digits)) (nat_le (length digits) 20)
-    (list_all is_ascii_digit digits)
+    let test = and-all _ _ _
     (le-true 1 (length digits) (omega arith)) (le-true (length digits) 20 (omega arith)) all in
     rw (test, e) refl
 
@@ -70,8 +69,7 @@ pub number-ended : (text : List ℕ) (i n : ℕ) (is_last : Bool) → i < length
     → (ends_cell (get_or text i 0) ≡ true) × (is_last ≡ ends_line (get_or text i 0))
     → BeginsWithNumber text n (take (length text - (i + 1)) (drop (i + 1) text)) is_last
 number-ended text i n is_last h some few small all e end =
-    let at = walked-end text i (get_or text i 0) h refl end.0
-    (digits-walked text i (omega arith) all) in
+    let at = walked-end _ _ _ h refl end.0 (digits-walked text i (omega arith) all) in
     let size : length (take i text) ≡ i = length-take-le i text (omega arith) in (
       ap natural_of at.0 ∙ number-spelled (take i text) n (omega arith) (omega arith) all e,
       below n i 9 small few,
@@ -149,6 +147,24 @@ bool-ended (b ∷ last ∷ rest) x is_last h bit e end =
       end.1 ∙ sym (last-more b (last ∷ rest) value.0 ∙ last-end last rest end.0),
     )
 
+digit-both : (b : ℕ) → ((b == 48) || (b == 49)) ≡ true → bool_of (b ∷ []) ≡ int_of (b ∷ [])
+digit-both b h =
+    ⊎_elim
+    (λ (e : (b == 48) ≡ true). let is : b ≡ 48 = equal-from b 48 e in rw is refl)
+    (λ (e : (b == 49) ≡ true). let is : b ≡ 49 = equal-from b 49 e in rw is refl)
+    (or-cases (b == 48) (b == 49) h)
+
+-- a cell of one digit, 0 or 1, has the same value as an integer and as a Boolean
+pub bool-int : (text rest : List ℕ) (x : ℤ) (is_last : Bool) → 2 ≤ length text
+    → ((get_or text 0 0 == 48) || (get_or text 0 0 == 49)) ≡ true
+    → ends_cell (get_or text 1 0) ≡ true → BeginsWith kind.Int text x rest is_last
+    → BeginsWith kind.Bool text x rest is_last
+bool-int [] rest x is_last h bit end int = absurd (omega (arith, h))
+bool-int (b ∷ []) rest x is_last h bit end int = absurd (omega (arith, h))
+bool-int (b ∷ last ∷ more) rest x is_last h bit end int =
+    let cell = bool-cell b last more (bool-value b bit).0 end in
+    (ap bool_of cell ∙ digit-both b bit ∙ sym (ap int_of cell) ∙ int.0, int.1, int.2)
+
 -- a text is its first byte, and then the others
 pub by_first : (text : List ℕ) (b : ℕ) → 1 ≤ length text → get_or text 0 0 ≡ b
     → text ≡ b ∷ take (length text - 1) (drop 1 text)
@@ -162,7 +178,7 @@ pub int-negative-in : (text rest : List ℕ) (n : ℕ) (x : ℤ) (is_last : Bool
     → BeginsWith kind.Int text x rest is_last
 int-negative-in text rest n x is_last h e b s =
     subst (λ t. BeginsWith kind.Int t x rest is_last) (sym (by_first text 45 h e))
-    (int-negative (take (length text - 1) (drop 1 text)) rest n x is_last b s)
+    (int-negative _ _ _ _ _ b s)
 
 -- a text begins with a number, with its sign if it has one, where digits follow the sign
 pub int-either : (text digits rest : List ℕ) (negative : Bool) (n : ℕ) (x : ℤ) (is_last : Bool)

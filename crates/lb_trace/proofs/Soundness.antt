@@ -37,12 +37,12 @@ ok_if : {A : Type 0} (b : Bool) (x v : A) (n : ℕ) → (if b then Ok x else Err
 ok_if true x v n is = (refl, cc is)
 ok_if false x v n is = cc is
 
-and_then_some : {A B : Type 0} (f : A → Option B) (o : Option A) (v : B)
+pub and_then_some : {A B : Type 0} (f : A → Option B) (o : Option A) (v : B)
     → option_and_then f o ≡ Some v → (x : A) × (o ≡ Some x) × (f x ≡ Some v)
 and_then_some f None v is = cc is
 and_then_some f (Some x) v is = (x, refl, is)
 
-map_some : {A B : Type 0} (f : A → B) (o : Option A) (v : B) → option_map f o ≡ Some v
+pub map_some : {A B : Type 0} (f : A → B) (o : Option A) (v : B) → option_map f o ≡ Some v
     → (x : A) × (o ≡ Some x) × (f x ≡ v)
 map_some f None v is = cc is
 map_some f (Some x) v is = (x, refl, cc is)
@@ -77,7 +77,7 @@ IsCell-either false true v is = inl (cc is)
 IsCell-either false false v is = cc is
 
 -- a value of a cell is lawful
-IsCell-value : (k : Kind) (cell : List ℕ) (v : ℤ) → cell_value k cell ≡ Some v → IsCell k v
+pub IsCell-value : (k : Kind) (cell : List ℕ) (v : ℤ) → cell_value k cell ≡ Some v → IsCell k v
 IsCell-value kind.Int cell v is = IsInt-cell cell v is
 IsCell-value kind.Bool cell v is =
     IsCell-either (bytes_eq cell (codes "1") || bytes_eq cell (codes "true"))
@@ -246,8 +246,7 @@ IsRecording-instant elements columns traces next r lawful reads =
     (nat_le ((instants_of traces + 1) * cells_of_instant elements) 67108864) reads.room in
     subst (λ ts. IsRecording record { signature = elements; traces = ts }) (sym reads.is)
     (IsRecording-either (is_last name traces) elements traces reads.instant refl lawful
-    (spelled_name elements columns r reads.instant reads.spells)
-    (spelled_row elements columns r reads.instant reads.spells) reads.stays parts.0
+    (spelled_name _ _ _ _ reads.spells) (spelled_row _ _ _ _ reads.spells) reads.stays parts.0
     (leb-true ((instants_of traces + 1) * cells_of_instant elements) 67108864 parts.1))
 
 -- a reading of `records` behind `before`: they spell the instants that `after` has more

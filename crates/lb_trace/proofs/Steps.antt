@@ -34,4 +34,4 @@ pub step : (elements : Elements) (columns : Record) (traces : Traces) (r : Recor
     ≡ with_records elements columns (with_instant instant.0 instant.1 traces) more
 unfolding with_records
 step elements columns traces r instant more spells back room =
-    rw (good_record elements columns traces r instant spells back room) refl
+    rw (good_record _ _ _ _ _ spells back room) refl

@@ -57,14 +57,11 @@ pub head_outcome : (elements : Elements) (table : ColumnTable) (head rest : List
     ≡ with_records elements (columns_in table) [] (records default_config rest)
 head_outcome elements table head rest is end short =
     let all : records_of (head ++ rest) ≡ fields_of table.header ∷ records default_config rest =
-    ⊎_elim (λ (h : is_ended head ≡ true). head_records elements table head rest is h)
-    (λ (h : rest ≡ []).
+    ⊎_elim (λ (h : is_ended head ≡ true). head_records _ _ _ _ is h) (λ (h : rest ≡ []).
     subst (λ t. records_of (head ++ t) ≡ fields_of table.header ∷ records default_config t)
     (sym h) (head_alone elements table head is))
     end in
-    outcome-records elements (head ++ rest)
-    (fields_of table.header ∷ records default_config rest) short all
-    ∙ reading-rows elements (fields_of table.header) (records default_config rest) is.headed
+    outcome-records _ _ _ short all ∙ reading-rows _ _ _ is.headed
 
 -- ## The front of a text
 
@@ -122,7 +119,7 @@ pub part_behind : (elements : Elements) (columns : Record) (part : List Record)
     → IsRecording record { signature = elements; traces = traces ++ set }
     → with_records elements columns traces part ≡ Ok (traces ++ set)
 part_behind elements columns part traces set read lawful =
-    complete elements columns traces set part lawful (part_spells elements columns part set read)
+    complete _ _ _ _ _ lawful (part_spells _ _ _ _ read)
 
 -- the records of two parts, each read by itself, are read as the traces of both
 pub joined_parts : (elements : Elements) (columns : Record) (done part : List Record)
@@ -134,7 +131,7 @@ pub joined_parts : (elements : Elements) (columns : Record) (done part : List Re
 joined_parts elements columns done part traces set first second lawful =
     with_records-append elements columns [] done part
     ∙ ap (then_read (λ t. with_records elements columns t part)) first
-    ∙ part_behind elements columns part traces set second lawful
+    ∙ part_behind _ _ _ _ _ second lawful
 
 -- a refusal of records behind the traces of a part is the refusal of the records of both
 pub refused_behind : (elements : Elements) (columns : Record) (done more : List Record)

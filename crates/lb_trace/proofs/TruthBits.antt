@@ -237,8 +237,7 @@ bits-joined text done more bits group few front back =
     let cell : (k : ℕ) → k < done + more → Cell text (bits + group * 2 ^ done) k =
     λ k l.
     ⊎_elim (λ (lt : k < done). cell-before text done bits group k front lt)
-    (λ (le : done ≤ k). cell-after text done more bits group k front.small back le l)
-    (cases_lt k done) in
+    (λ (le : done ≤ k). cell-after _ _ _ _ _ _ front.small back le l) (cases_lt k done) in
     rw fit.0 (record {
       within = omega (arith, front.within, back.within, length-drop (2 * done) text);
       digits = λ k l. (cell k l).0;

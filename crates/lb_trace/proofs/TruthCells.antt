@@ -27,7 +27,7 @@ pub truth-begins : (text : List ℕ) → 1 < length text → IsTruth text 0
     → BeginsWith kind.Bool text (truth_at text 0) (drop 2 text) false
 truth-begins text long is =
     subst (λ rest. BeginsWith kind.Bool text (truth_at text 0) rest false) (take_rest text 2)
-    (bool-ended text (truth_at text 0) false long is.0 refl (rw is.1 (refl, refl)))
+    (bool-ended _ _ _ long is.0 refl (rw is.1 (refl, refl)))
 
 one-goes_on : (column : Column) (columns : List Column) (text : List ℕ) → 1 < length text
     → column.kind ≡ kind.Bool → IsTruth text 0
@@ -72,15 +72,9 @@ four-texts a b c d columns (s ∷ t ∷ u ∷ v ∷ w ∷ x ∷ y ∷ z ∷ rest
     let four : List ℕ = w ∷ x ∷ y ∷ z ∷ rest in
     let six : List ℕ = y ∷ z ∷ rest in
     let text : List ℕ = s ∷ t ∷ u ∷ v ∷ w ∷ x ∷ y ∷ z ∷ rest in
-    both-go_on (a ∷ b ∷ c ∷ d ∷ columns) (b ∷ c ∷ d ∷ columns) columns text two rest
-    (truth_at text 0 ∷ []) (truth_at two 0 ∷ truth_at two 2 ∷ truth_at two 4 ∷ [])
-    (one-goes_on a (b ∷ c ∷ d ∷ columns) text (omega arith) ka are.0)
-    (both-go_on (b ∷ c ∷ d ∷ columns) (c ∷ d ∷ columns) columns two four rest
-    (truth_at two 0 ∷ []) (truth_at four 0 ∷ truth_at four 2 ∷ [])
-    (one-goes_on b (c ∷ d ∷ columns) two (omega arith) kb are.1)
-    (both-go_on (c ∷ d ∷ columns) (d ∷ columns) columns four six rest
-    (truth_at four 0 ∷ []) (truth_at six 0 ∷ [])
-    (one-goes_on c (d ∷ columns) four (omega arith) kc are.2)
+    both-go_on _ _ _ _ _ _ _ _ (one-goes_on _ _ _ (omega arith) ka are.0)
+    (both-go_on _ _ _ _ _ _ _ _ (one-goes_on _ _ _ (omega arith) kb are.1)
+    (both-go_on _ _ _ _ _ _ _ _ (one-goes_on c (d ∷ columns) four (omega arith) kc are.2)
     (one-goes_on d columns six (omega arith) kd are.3)))
 
 -- the digits at every second byte are the cells of the first four columns, all of Booleans
@@ -128,7 +122,7 @@ four-read columns p q r s text x y z w more long kp kq kr ks are ex ey ez ew =
     let values : List ℤ = stored x ∷ stored y ∷ stored z ∷ stored w ∷ [] in (
       long,
       more,
-      four-go_on columns p q r s text values more long kp kq kr ks are
+      four-go_on _ _ _ _ _ _ _ more long kp kq kr ks are
           (λ i. one i ∷ two i ∷ three i ∷ four i ∷ []),
     )
 

@@ -2,7 +2,7 @@
 use Rattle.std.proofs.Common.{ℕ, zero, suc, ◌≡◌, ◌+◌, ◌-◌, ◌*◌, ◌%◌, ◌^◌, ◌<◌, ◌≤◌, Bool, true}
 use Rattle.std.proofs.Common.{false, ◌==◌, ◌||◌, if◌then◌else◌, List, [], ◌∷◌, ◌++◌, length, get_or}
 use Rattle.std.proofs.Common.{map, drop, Some, ℤ, pos, refl, sym, ap, ◌∙◌, subst, arith}
-use Rattle.std.proofs.Common.{⊎_elim, length-drop, replicate}
+use Rattle.std.proofs.Common.{⊎_elim, length-drop, replicate, append_assoc, None, Option}
 use Rattle.std.proofs.lemmas.Bool.{cases_lt}
 use Rattle.std.proofs.lemmas.Bool.Decides.{nat_tests}
 use Rattle.std.proofs.lemmas.List.{drop-drop, get_or-drop, length-replicate, same_lists}
@@ -11,25 +11,28 @@ use Rattle.std.proofs.lemmas.List.Elements.{All-replicate}
 use Rattle.std.proofs.lemmas.List.FromFn.{get_or-map-range_with_len, length-map-range_with_len}
 use Rattle.std.proofs.lemmas.List.FromFn.{map-range_with_len_more}
 use Rattle.std.proofs.lemmas.Nat.Bits.{bit_at_cat_high, bit_at_cat_low}
+use Rattle.std.proofs.lemmas.Simd.{map-map}
 use Rattle.std.specs.Int.{bit_at}
 use Rattle.std.specs.List.{All, range_with_len}
 use Rattle.lb_syntax.specs.declared.tree.Kind.TheVariants as kind
 use Rattle.lb_traces.specs.BitRows.{row_of_bits}
 use Rattle.lb_traces.specs.Packed.{truth_cell}
 use Rattle.lb_trace.specs.declared.header.Column.{Column}
+use Rattle.lb_trace.specs.Groups.{AreBooleans}
+use Rattle.lb_trace.specs.HeldLines.{bits_of}
 use Rattle.lb_trace.specs.Lines.{after_line, record_of}
 use Rattle.lb_trace.specs.Plain.{ends_line}
 use Rattle.lb_trace.specs.PlainRows.{BeginsWith, onto, plain_row}
 use Rattle.lb_trace.specs.Scan.{ends_cell}
 use Rattle.lb_trace.specs.TruthBits.{AreTruthColumns, HasBits, is_one}
-use Rattle.lb_trace.specs.TruthCells.{IsTruth}
+use Rattle.lb_trace.specs.TruthCells.{GoesOn, IsTruth}
 use Rattle.lb_trace.proofs.PlainValues.{after-last, after-more, onto-nil, row-full, row-more}
 use Rattle.lb_trace.proofs.SmallNumbers.{bool-ended, equal-from}
 use Rattle.lb_trace.proofs.TruthBits.{bits-fit}
 use Rattle.lb_trace.proofs.TruthCells.{truth-begins}
 
 -- the Booleans of the first `n` cells
-abbrev ones : List ℕ → ℕ → List ℤ
+abbrev pub ones : List ℕ → ℕ → List ℤ
 ones text n = map (λ k. truth_cell (is_one text (2 * k))) (range_with_len 0 n)
 
 ones-more : (text : List ℕ) (n : ℕ)
@@ -79,38 +82,76 @@ record Walked (columns : List Column) (text : List ℕ) (n : ℕ) : Type 0 where
   pub line : after_line text ≡ after_line (drop (2 * n) text)
 
 one-more : (columns : List Column) (text : List ℕ) (count bits n : ℕ)
-    → All (λ column. column.kind ≡ kind.Bool) columns → HasBits text count bits → n < count
-    → count < length columns → Walked columns text n → Walked columns text (n + 1)
+    → AreBooleans count columns → HasBits text count bits → n < count
+    → count ≤ length columns → Walked columns text n → Walked columns text (n + 1)
 one-more columns text count bits n booleans has l room so_far =
     let inside : n < length columns = omega (arith, l, room) in
     let column = get_or columns n some_column in
     let begins = subst (λ k. BeginsWith k (drop (2 * n) text) (truth_cell (is_one text (2 * n)))
-    (drop (2 * (n + 1)) text) false) (sym (booleans n some_column inside))
+    (drop (2 * (n + 1)) text) false) (sym (booleans n some_column l))
     (inner-begins text count bits n has l) in
     record {
       row =
           so_far.row
-          ∙ row-more columns n some_column column (drop (2 * n) text) (drop (2 * (n + 1)) text)
-          (truth_cell (is_one text (2 * n))) (ones text n) false inside refl begins refl
+          ∙ row-more _ _ _ _ _ _ _ _ _ inside refl begins refl
           ∙ ap (λ r. onto r (plain_row (drop (n + 1) columns) (record_of (drop (2 * (n + 1))
           text))))
           (sym (ones-more text n));
       line =
           so_far.line
-          ∙ after-more column.kind (drop (2 * n) text) (drop (2 * (n + 1)) text)
-          (truth_cell (is_one text (2 * n))) false begins refl;
+          ∙ after-more _ _ _ _ _ begins refl;
     }
 
 walked : (columns : List Column) (text : List ℕ) (count bits n : ℕ)
-    → All (λ column. column.kind ≡ kind.Bool) columns → HasBits text count bits → n ≤ count
-    → count < length columns → Walked columns text n
+    → AreBooleans count columns → HasBits text count bits → n ≤ count
+    → count ≤ length columns → Walked columns text n
 walked columns text count bits zero booleans has le room =
     record { row = sym (onto-nil (plain_row columns (record_of text))); line = refl }
 walked columns text count bits (suc n) booleans has le room =
     let up : n + 1 ≡ suc n = omega arith in
     subst (Walked columns text) up
-    (one-more columns text count bits n booleans has (omega (arith, le)) room
-    (walked columns text count bits n booleans has (omega (arith, le)) room))
+    (one-more _ _ _ _ _ booleans has (omega (arith, le)) room
+    (walked _ _ _ _ _ booleans has (omega (arith, le)) room))
+
+all-booleans : (columns : List Column) (count : ℕ) → count ≤ length columns
+    → All (λ column. column.kind ≡ kind.Bool) columns → AreBooleans count columns
+all-booleans columns count room all k d l = all k d (omega (arith, l, room))
+
+onto-both : (row more : List ℤ) (rest : Option (List ℤ))
+    → onto row (onto more rest) ≡ onto (row ++ more) rest
+onto-both row more None = refl
+onto-both row more (Some values) = ap Some (sym (append_assoc row more values))
+
+-- the first `count` columns are Booleans, and so are the cells before the others
+pub booleans-on : (columns : List Column) (text : List ℕ) (count bits : ℕ)
+    → AreBooleans count columns → count ≤ length columns → HasBits text count bits
+    → GoesOn columns text (ones text count) (drop count columns) (drop (2 * count) text)
+booleans-on columns text count bits booleans room has =
+    let w = walked _ _ _ _ _ booleans has (omega arith) room in (
+      λ row. ap (onto row) w.row
+          ∙ onto-both row (ones text count)
+          (plain_row (drop count columns) (record_of (drop (2 * count) text))),
+      w.line,
+    )
+
+-- the bits of the cells are their Booleans
+pub ones-bits : (text : List ℕ) (count bits : ℕ) → HasBits text count bits
+    → map truth_cell (bits_of count bits) ≡ ones text count
+ones-bits text count bits has =
+    map-map truth_cell (λ b. bit_at bits b == 1) (range_with_len 0 count)
+    ∙ same_lists (map f (range_with_len 0 count)) (map g (range_with_len 0 count))
+    (length-map-range_with_len f 0 count ∙ sym (length-map-range_with_len g 0 count))
+    (λ k d l.
+    let below : k < count = omega (arith, l, length-map-range_with_len f 0 count) in
+    get_or-map-range_with_len f 0 count k k d below (omega arith)
+    ∙ ap truth_cell (has.bits_are k below)
+    ∙ sym (get_or-map-range_with_len g 0 count k k d below (omega arith)))
+  where
+    f : ℕ → ℤ
+    f b = truth_cell (bit_at bits b == 1)
+
+    g : ℕ → ℤ
+    g k = truth_cell (is_one text (2 * k))
 
 -- a text begins with the Boolean of its first byte, which the end of a line ends
 last-begins : (text : List ℕ) → 2 ≤ length text
@@ -120,7 +161,7 @@ last-begins : (text : List ℕ) → 2 ≤ length text
 last-begins text long digit end =
     subst (λ rest. BeginsWith kind.Bool text (truth_cell (get_or text 0 0 == 49)) rest true)
     (take_rest text 2)
-    (bool-ended text (truth_cell (get_or text 0 0 == 49)) true long digit
+    (bool-ended _ _ _ long digit
     (sym (chosen (get_or text 0 0 == 49))) (or-right (get_or text 1 0) end, sym end))
   where
     or-right : (b : ℕ) → ends_line b ≡ true → ends_cell b ≡ true
@@ -195,9 +236,10 @@ whole-row columns text last bits are has begins =
     let here : List ℕ = drop (2 * last) text in
     let begins' = subst (λ k. BeginsWith k here v (drop 2 here) true)
     (sym (are.booleans last some_column inside)) begins in
-    (walked columns text last bits last are.booleans has (omega arith) inside).row
-    ∙ row-full columns last some_column column here (drop 2 here) v (ones text last) true inside
-    refl begins' refl (omega (arith, are.as_many))
+    (walked _ _ _ _ _
+    (all-booleans columns last (omega (arith, inside)) are.booleans) has (omega arith)
+    (omega (arith, inside))).row
+    ∙ row-full _ _ _ _ _ _ _ _ _ inside refl begins' refl (omega (arith, are.as_many))
     ∙ ap Some (sym (ones-more text last))
 
 whole-line : (text : List ℕ) (last bits : ℕ) → HasBits text last bits
@@ -211,7 +253,9 @@ whole-line text last bits has begins =
     let all : All (λ column. column.kind ≡ kind.Bool) columns =
     All-replicate (λ (column : Column). column.kind ≡ kind.Bool) (last + 1) some_column refl in
     after-last kind.Bool here (drop 2 here) (truth_cell (is_one text (2 * last))) true begins refl
-    ∙ sym (walked columns text last bits last all has (omega arith) (omega (arith, long))).line
+    ∙ sym (walked columns text last bits last
+    (all-booleans columns last (omega (arith, long)) all) has (omega arith)
+    (omega (arith, long))).line
 
 spelled : (text : List ℕ) (last bits one : ℕ) → last < 64 → HasBits text last bits
     → 2 ≤ length (drop (2 * last) text)

@@ -180,12 +180,7 @@ number-below p [] small = subst (λ n. 0 < n) (sym (pow-zero p)) (omega arith)
 number-below p (x ∷ xs) small =
     let below : number_l p xs < p ^ length xs = number-below p xs small.1 in
     let rest : number_l p xs + 1 ≤ p ^ length xs = omega (arith, below) in
-    omega (
-      arith,
-      small.0,
-      mul-le-mul_left p rest,
-      pow-succ' p (length xs),
-    )
+    omega (arith, small.0, mul-le-mul_left p rest, pow-succ' p (length xs))
 
 -- a lane of twice the width, by way of the bytes, is made of two lanes
 pub wide-by_bytes : (p q n m : ℕ) (xs : List ℕ) (j : ℕ) → q ≡ p ^ 2 → p ^ (2 * n) ≡ 256 ^ m
@@ -244,7 +239,7 @@ hits-are v long =
     (zip2_splat (λ a b. cond (eqb a b) 255 0) v 32 45 long)
     ∙ ap (λ l. sel_l l (replicate 32 255) (replicate 32 0))
     (map-map (top 7) (λ b. cond (eqb b 45) 255 0) v)
-    ∙ selected (λ b. top 7 (cond (eqb b 45) 255 0)) v 32 255 0 long
+    ∙ selected _ _ _ _ _ long
 
 hit-small : (b : Bool) → cond (top 7 (cond b 255 0)) 255 0 < 256
 hit-small true = omega arith
@@ -310,7 +305,7 @@ marks-are words long =
     ap (λ ms. sel_l ms (replicate 4 1) (replicate 4 0))
     (tops_compared w64 (λ a b. not (eqb a b)) words (replicate 4 0)
     ∙ zip2_splat (λ a b. not (eqb a b)) words 4 0 long)
-    ∙ selected (λ n. not (eqb n 0)) words 4 1 0 long
+    ∙ selected _ _ _ _ _ long
 
 mark-zero : (n : ℕ) → (mark n == 0) ≡ (n == 0)
 unfolding mark
@@ -368,10 +363,10 @@ digits-are v long fits =
     ∙ ap (λ l. zip2 (λ a b. (a + (256 - b)) % 256) (sel_l l (replicate 32 48) v) (replicate 32 48))
     (map-map (top 7) (λ b. cond (ltb b 48) 255 0) v)
     ∙ ap (λ l. zip2 (λ a b. (a + (256 - b)) % 256) l (replicate 32 48))
-    (selected-own (λ b. top 7 (cond (ltb b 48) 255 0)) v 32 48 long)
+    (selected-own _ _ _ _ long)
     ∙ zip2_splat (λ a b. (a + (256 - b)) % 256) (map own v) 32 48 (length-map v own ∙ long)
     ∙ map-map (λ a. (a + (256 - 48)) % 256) own v
-    ∙ same-lanes above_zero (λ b. b - 48) v
+    ∙ same-lanes _ _ _
     (Each1-weaker (Fits w8) (λ b. above_zero b ≡ b - 48) (λ b f. digit-lane b f.fits) v fits)
 
 -- ## Signs

@@ -26,3 +26,5 @@ pub mod RoundReaders
 pub mod WordValues
 pub mod Numbers
 pub mod WholeTraces
+pub mod Groups
+pub mod HeldLines

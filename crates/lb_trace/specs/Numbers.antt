@@ -1,14 +1,19 @@
 -- Cells that are numbers of at most eight bytes, found many at once.
 -- This file says what the code finds in a text; no definition of the language stands on it.
 use Rattle.std.specs.Prelude.{ℕ, ◌≡◌, ◌+◌, ◌-◌, ◌<◌, ◌≤◌, ◌==◌, ◌⊎◌, Bool, true, false}
-use Rattle.std.specs.Prelude.{if◌then◌else◌, List, [], ◌∷◌, drop, get_or, ℤ, pos}
+use Rattle.std.specs.Prelude.{if◌then◌else◌, List, [], ◌∷◌, ◌++◌, All, drop, get_or, length, map}
+use Rattle.std.specs.Prelude.{take, ℤ, Some}
 use Rattle.std.specs.Char.{is_ascii_digit}
 use Rattle.std.specs.Int.{bit_at}
+use Rattle.lb_syntax.specs.declared.tree.Kind.{Kind}
 use Rattle.lb_syntax.specs.declared.tree.Kind.TheVariants.{Int}
 use Rattle.lb_trace.specs.declared.header.Column.{Column}
+use Rattle.lb_trace.specs.Fronts.{bytes_of}
+use Rattle.lb_trace.specs.Lines.{after_line, record_of}
 use Rattle.lb_trace.specs.Plain.{ends_line}
-use Rattle.lb_trace.specs.PlainRows.{BeginsWith}
+use Rattle.lb_trace.specs.PlainRows.{BeginsWith, onto, plain_row}
 use Rattle.lb_trace.specs.Scan.{ends_cell}
+use Rattle.lb_trace.specs.WordValues.{value_in}
 
 -- the first four columns hold integers
 abbrev pub AreIntegers : List Column → Type 0
@@ -44,15 +49,44 @@ pub record IsLowest (bits place others : ℕ) : Type 0 where
   pub gone : (i : ℕ) → i ≤ place → bit_at others i ≡ 0
   pub kept : (i : ℕ) → place < i → bit_at others i ≡ bit_at bits i
 
--- `text` begins with four cells that spell `values`; the fourth ends at `end`, if a cell ends there
-pub record AreFour (text : List ℕ) (values : List ℤ) (end : ℕ) : Type 0 where
-  pub second : ℕ
-  pub third : ℕ
-  pub fourth : ℕ
-  pub one : BeginsWith Int text (get_or values 0 (pos 0)) (drop second text) false
-  pub two : BeginsWith Int (drop second text) (get_or values 1 (pos 0)) (drop third text) false
-  pub three : BeginsWith Int (drop third text) (get_or values 2 (pos 0)) (drop fourth text) false
-  pub four :
+-- bit `i` of `ends` is set where a number, or no number, ends at byte `i`; only bits from place
+-- `start` on are set
+pub record AreEnds (text : List ℕ) (ends start : ℕ) : Type 0 where
+  pub inside : (i : ℕ) → start ≤ i → i < 31 → bit_at ends i ≡ 0 → IsInside text i
+  pub past : (i : ℕ) → 31 < i → bit_at ends i ≡ 0
+  pub gone : (i : ℕ) → i < start → bit_at ends i ≡ 0
+
+-- no byte of a word is above the digit 9
+abbrev pub IsSmall : ℕ → Type 0
+IsSmall word = All (λ b. b - 48 < 10) (bytes_of word)
+
+-- the bytes from `start` up to `end` are those of `word`; they spell its value as a cell of a kind,
+-- if a cell ends at `end`
+pub record IsShortCell (kind : Kind) (text : List ℕ) (start word end : ℕ) : Type 0 where
+  pub within : end < 32
+  pub small : IsSmall word
+  pub begins :
       ends_cell (get_or text end 0) ≡ true →
-      BeginsWith Int (drop fourth text) (get_or values 3 (pos 0)) (drop (end + 1) text)
+      BeginsWith kind (drop start text) (value_in word) (drop (end + 1) text)
       (ends_line (get_or text end 0))
+
+-- a cell of a kind stands from `start` up to `end`, the value of `word`; `is_last`: whether it ends
+-- its record
+pub record IsCellIn (kind : Kind) (text : List ℕ) (start word end : ℕ) (is_last : Bool) : Type 0 where
+  pub within : end < 32
+  pub small : IsSmall word
+  pub begins : BeginsWith kind (drop start text) (value_in word) (drop (end + 1) text) is_last
+
+-- the first record of `text` has the values of the columns, and `rest` follows it
+abbrev pub IsWhole : List Column → List ℕ → List ℤ → List ℕ → Type 0
+IsWhole columns text values rest =
+    ((row : List ℤ) → onto row (plain_row columns (record_of text)) ≡ Some (row ++ values))
+    × (rest ≡ after_line text)
+
+-- the first record of `text` has one to four cells, the values of the first of `words`; it ends at
+-- `end`
+pub record AreLastWords (columns : List Column) (text words : List ℕ) (end : ℕ) : Type 0 where
+  pub few : length columns ≤ 4
+  pub within : end < 32
+  pub small : All IsSmall words
+  pub whole : IsWhole columns text (take (length columns) (map value_in words)) (drop (end + 1) text)

@@ -1,12 +1,13 @@
 -- The table of a header.
 -- This file says what the code finds in a text; no definition of the language stands on it.
-use Rattle.std.specs.Prelude.{Bool as Truth, false, ◌≡◌, IsTrue, List, [], ◌∷◌, length, map}
+use Rattle.std.specs.Prelude.{Bool as Truth, false, ◌≡◌, IfSome, IsTrue, List, [], ◌∷◌, length, map}
 use Rattle.std.specs.List.{AllZip}
 use Rattle.csv.specs.Records.{fields_of}
 use Rattle.lb_static.specs.Signature.{Elements}
 use Rattle.lb_traces.specs.Traces.{Recording}
 use Rattle.lb_trace.specs.declared.recorder.Recorder.{Recorder}
 use Rattle.lb_trace.specs.declared.table.ColumnTable.{ColumnTable}
+use Rattle.lb_trace.specs.Groups.{AllGroups}
 use Rattle.lb_trace.specs.Mirrors.{column_of, knows}
 use Rattle.lb_trace.specs.PlainRows.{AreInOrder, ArePlaced}
 use Rattle.lb_trace.specs.TruthBits.{AreTruthTable}
@@ -26,6 +27,7 @@ pub record IsColumnTable (elements : Elements) (table : ColumnTable) : Type 0 wh
       → (length table.placed.items ≡ table.count) × ArePlaced table.placed.items table.columns.items
   pub truths : IsTrue table.are_truths
       → AreTruthTable elements table.columns.items table.count
+  pub groups : IfSome table.groups (λ gs. AllGroups gs.items table.columns.items)
 
 -- whether some records begin with a header
 abbrev pub has_header : Elements → List Record → Truth

@@ -3,19 +3,17 @@
 //! One number has a bit for each of the next 32 bytes, set where the byte is no digit. The ends of
 //! four cells are read from it, so a cell need not wait for the bytes of the cell before it.
 
-ghost use Rattle.std.specs.Prelude.{◌≡◌, ◌<◌, ◌≤◌, ◌+◌, ◌-◌, ◌==◌, ◌++◌, ℕ, List, ℤ, IfSome};
-ghost use Rattle.std.specs.Prelude.{IsTrue, Some, drop, get_or, length, map, replicate, take};
-ghost use Rattle.std.specs.Int.{bit_at};
+ghost use Rattle.std.specs.Prelude.{◌≡◌, ◌<◌, ◌≤◌, ◌+◌, ◌-◌, ◌==◌, ◌||◌, ◌++◌, IfSome};
+ghost use Rattle.std.specs.Prelude.{true, false, IsTrue, List, drop, get_or, length, map, replicate};
+ghost use Rattle.std.specs.Prelude.{take};
 ghost use lib.Lanes.{mask_l};
-ghost use Rattle.lb_trace.specs.Fronts.{others};
-ghost use Rattle.lb_trace.specs.Fronts.{bytes_of};
-ghost use Rattle.lb_trace.specs.Lines.{after_line, record_of};
-ghost use Rattle.lb_trace.specs.Numbers.{AreFour, AreIntegers, IsInside, IsLowest};
-ghost use Rattle.lb_trace.specs.PlainRows.{BeginsWith, onto, plain_row};
+ghost use Rattle.lb_trace.specs.Fronts.{bytes_of, others};
+ghost use Rattle.lb_trace.specs.Numbers.{AreEnds, AreIntegers, AreLastWords, IsCellIn, IsLowest};
+ghost use Rattle.lb_trace.specs.Numbers.{IsShortCell, IsWhole};
 ghost use Rattle.lb_trace.specs.TruthCells.{GoesOn};
 
-use crate::fast_cells::{cell_end, signed, small_bool};
-use crate::front::{first_eight, value_of};
+use crate::fast_cells::is_bit;
+use crate::front::first_eight;
 use crate::header::Column;
 use crate::scan::ends_line;
 use crate::words::values_of;
@@ -29,14 +27,6 @@ pub(crate) struct FourNumbers<'t> {
     pub(crate) rest: &'t [u8],
 }
 
-/// The value of a cell, the place behind its end, and whether it is the last one of its record.
-#[derive(Clone, Copy)]
-pub(crate) struct CellAt {
-    pub(crate) value: i32,
-    pub(crate) end: usize,
-    pub(crate) is_last: bool,
-}
-
 /// The values of the first four cells, where their columns are integers, each is short, and a comma
 /// stands after each. None says nothing of the text.
 #[inline(always)]
@@ -44,45 +34,107 @@ pub(crate) fn four_numbers<'t>(columns: &[Column], text: &'t [u8]) -> Option<Fou
     ensures { IfSome result (λ found. (3 < length columns.now)
         × GoesOn columns.now text.now found.values (drop 4 columns.now) found.rest.now) }
 {
-    if !are_integers(columns) || text.len() < 64 {
+    if !are_integers(columns) {
         return None;
     }
-    let four = four_at(text)?;
-    if text[four.end] != b',' {
-        return None;
-    }
-    let values = four.values;
-    Some(FourNumbers {
-        values,
-        rest: &text[four.end + 1..],
-    })
+    four_in(text)
 }
 
-/// The values of the last four cells of a record and the text after it, where their columns are
-/// integers and each is short. None says nothing of the text.
+/// `four_numbers` for any four columns of integers.
 #[inline(always)]
-pub(crate) fn last_four<'t>(columns: &[Column], text: &'t [u8]) -> Option<FourNumbers<'t>>
-    ensures { IfSome result (λ found. (length columns.now ≡ 4) × ((row : List ℤ)
-        → onto row (plain_row columns.now (record_of text.now)) ≡ Some (row ++ found.values))
-        × (found.rest.now ≡ after_line text.now)) }
+pub(crate) fn four_in<'t>(text: &'t [u8]) -> Option<FourNumbers<'t>>
+    ensures { IfSome result (λ found. (columns : List Column) → AreIntegers columns
+        → GoesOn columns text.now found.values (drop 4 columns) found.rest.now) }
 {
-    if columns.len() != 4 || !are_integers(columns) || text.len() < 64 {
+    if text.len() < 64 {
         return None;
     }
-    let four = four_at(text)?;
-    if !ends_line(text[four.end]) {
-        return None;
-    }
-    let values = four.values;
+    let a = inner_cell(Kind::Int, text, ends_in(text), 0)?;
+    let b = inner_cell(Kind::Int, text, a.others, a.end + 1)?;
+    let c = inner_cell(Kind::Int, text, b.others, b.end + 1)?;
+    let d = inner_cell(Kind::Int, text, c.others, c.end + 1)?;
+    let values = values_of(u64x4::from_array([a.word, b.word, c.word, d.word]));
     Some(FourNumbers {
         values,
-        rest: &text[four.end + 1..],
+        rest: &text[d.end + 1..],
     })
 }
 
-// Whether there are at least four columns, and the first four hold integers.
+/// The values of the last cells of a record, one to four, and the text after it, where each is a
+/// short number or the digit of a Boolean. Behind them the values are 0. None says nothing of the
+/// text.
 #[inline(always)]
-fn are_integers(columns: &[Column]) -> bool
+pub(crate) fn last_numbers<'t>(columns: &[Column], text: &'t [u8]) -> Option<FourNumbers<'t>>
+    ensures { IfSome result (λ found. (length columns.now ≤ 4) × IsWhole columns.now text.now
+        (take (length columns.now) found.values) found.rest.now) }
+{
+    if text.len() < 64 {
+        return None;
+    }
+    let last = last_words(columns, text)?;
+    let values = values_of(u64x4::from_array(last.words));
+    Some(FourNumbers {
+        values,
+        rest: &text[last.end + 1..],
+    })
+}
+
+// The words of the last cells of a record, and the place at which it ends.
+#[derive(Clone, Copy)]
+struct LastWords {
+    words: [u64; 4],
+    end: usize,
+}
+
+// The words of the last cells of a record, one to four; 0 behind them.
+#[inline(always)]
+fn last_words(columns: &[Column], text: &[u8]) -> Option<LastWords>
+    requires { 63 < length text.now }
+    ensures { IfSome result (λ last. AreLastWords columns.now text.now last.words last.end) }
+{
+    let ends = ends_in(text);
+    match columns {
+        [p] => {
+            let a = last_cell(p.kind, text, ends, 0)?;
+            Some(LastWords {
+                words: [a.word, 0, 0, 0],
+                end: a.end,
+            })
+        }
+        [p, q] => {
+            let a = inner_cell(p.kind, text, ends, 0)?;
+            let b = last_cell(q.kind, text, a.others, a.end + 1)?;
+            Some(LastWords {
+                words: [a.word, b.word, 0, 0],
+                end: b.end,
+            })
+        }
+        [p, q, r] => {
+            let a = inner_cell(p.kind, text, ends, 0)?;
+            let b = inner_cell(q.kind, text, a.others, a.end + 1)?;
+            let c = last_cell(r.kind, text, b.others, b.end + 1)?;
+            Some(LastWords {
+                words: [a.word, b.word, c.word, 0],
+                end: c.end,
+            })
+        }
+        [p, q, r, s] => {
+            let a = inner_cell(p.kind, text, ends, 0)?;
+            let b = inner_cell(q.kind, text, a.others, a.end + 1)?;
+            let c = inner_cell(r.kind, text, b.others, b.end + 1)?;
+            let d = last_cell(s.kind, text, c.others, c.end + 1)?;
+            Some(LastWords {
+                words: [a.word, b.word, c.word, d.word],
+                end: d.end,
+            })
+        }
+        _ => None,
+    }
+}
+
+/// Whether there are at least four columns, and the first four hold integers.
+#[inline(always)]
+pub(crate) fn are_integers(columns: &[Column]) -> bool
     ensures { IsTrue result → AreIntegers columns.now }
 {
     let [a, b, c, d, ..] = columns else {
@@ -91,43 +143,77 @@ fn are_integers(columns: &[Column]) -> bool
     is_int(a.kind) && is_int(b.kind) && is_int(c.kind) && is_int(d.kind)
 }
 
-// The values of four cells, and the place at which the last one ends.
+// The bytes of a cell as the highest bytes of a word, the place at which it ends, and the ends
+// behind that place.
 #[derive(Clone, Copy)]
-struct FourValues {
-    values: [i32; 4],
+struct CellWord {
+    word: u64,
     end: usize,
+    others: u64,
 }
 
-// The values of the first four cells, where each is a number of at most eight bytes, all stand
-// within the first 32, and a comma stands after each of the first three.
+// The cell from `start` on, where it has one to eight bytes; `ends` are the ends from there on.
 #[inline(always)]
-fn four_at(text: &[u8]) -> Option<FourValues>
-    requires { 63 < length text.now }
-    ensures { IfSome result (λ four. (four.end < 32) × (length four.values ≡ 4)
-        × AreFour text.now four.values four.end) }
+fn short_cell(kind: Kind, text: &[u8], ends: u64, start: usize) -> Option<CellWord>
+    requires long { 63 < length text.now }
+    requires ends { AreEnds text.now ends start }
+    ensures cell { IfSome result (λ c. IsShortCell kind text.now start c.word c.end) }
+    ensures others { IfSome result (λ c. AreEnds text.now c.others (c.end + 1)) }
 {
-    let first = next_end(ends_in(text))?;
-    let second = next_end(first.others)?;
-    let third = next_end(second.others)?;
-    let fourth = next_end(third.others)?;
-    if !is_inner(text, 0, first.place)
-        || !is_inner(text, first.place + 1, second.place)
-        || !is_inner(text, second.place + 1, third.place)
-        || !is_short(third.place + 1, fourth.place)
-    {
+    let next = next_end(ends)?;
+    let end = next.place;
+    if !is_short(start, end) || !is_of(kind, text, start, end) {
         return None;
     }
-    let words = [
-        word_of(text, 0, first.place),
-        word_of(text, first.place + 1, second.place),
-        word_of(text, second.place + 1, third.place),
-        word_of(text, third.place + 1, fourth.place),
-    ];
-    let values = values_of(u64x4::from_array(words));
-    Some(FourValues {
-        values,
-        end: fourth.place,
+    Some(CellWord {
+        word: word_of(text, start, end),
+        end,
+        others: next.others,
     })
+}
+
+// `short_cell` where a comma stands after it.
+#[inline(always)]
+fn inner_cell(kind: Kind, text: &[u8], ends: u64, start: usize) -> Option<CellWord>
+    requires long { 63 < length text.now }
+    requires ends { AreEnds text.now ends start }
+    ensures cell { IfSome result (λ c. IsCellIn kind text.now start c.word c.end false) }
+    ensures others { IfSome result (λ c. AreEnds text.now c.others (c.end + 1)) }
+{
+    let cell = short_cell(kind, text, ends, start)?;
+    if text[cell.end] != b',' {
+        return None;
+    }
+    Some(cell)
+}
+
+// `short_cell` where its record ends.
+#[inline(always)]
+fn last_cell(kind: Kind, text: &[u8], ends: u64, start: usize) -> Option<CellWord>
+    requires long { 63 < length text.now }
+    requires ends { AreEnds text.now ends start }
+    ensures cell { IfSome result (λ c. IsCellIn kind text.now start c.word c.end true) }
+    ensures others { IfSome result (λ c. AreEnds text.now c.others (c.end + 1)) }
+{
+    let cell = short_cell(kind, text, ends, start)?;
+    if !ends_line(text[cell.end]) {
+        return None;
+    }
+    Some(cell)
+}
+
+// Whether a cell may stand in a column of a kind: a Boolean is a digit 0 or 1.
+#[inline(always)]
+fn is_of(kind: Kind, text: &[u8], start: usize, end: usize) -> bool
+    requires order { start ≤ end }
+    requires within { start < length text.now }
+    ensures { IsTrue result → kind ≡ Kind.Bool → (end ≡ start + 1)
+        × (((get_or text.now start 0 == 48) || (get_or text.now start 0 == 49)) ≡ true) }
+{
+    match kind {
+        Kind::Int => true,
+        Kind::Bool => end - start == 1 && is_bit(text[start]),
+    }
 }
 
 // The first 32 bytes as bits: 1 where a byte ends a number, or stands in none. That is each byte
@@ -135,8 +221,7 @@ fn four_at(text: &[u8]) -> Option<FourValues>
 #[inline(always)]
 fn ends_in(text: &[u8]) -> u64
     requires { 31 < length text.now }
-    ensures inside { (i : ℕ) → i < 31 → bit_at result i ≡ 0 → IsInside text.now i }
-    ensures past { (i : ℕ) → 31 < i → bit_at result i ≡ 0 }
+    ensures { AreEnds text.now result 0 }
 {
     let others = others_in(text);
     let minus = minus_in(text);
@@ -183,16 +268,6 @@ fn is_short(start: usize, end: usize) -> bool
     (end - start).wrapping_sub(1) < 8
 }
 
-// Whether a cell has one to eight bytes, and a comma stands after it.
-#[inline(always)]
-fn is_inner(text: &[u8], start: usize, end: usize) -> bool
-    requires order { start ≤ end }
-    requires within { end < length text.now }
-    ensures { IsTrue result → (start < end) × (end ≤ start + 8) × (get_or text.now end 0 ≡ 44) }
-{
-    is_short(start, end) && text[end] == b','
-}
-
 // The bytes of a cell as the highest bytes of a word.
 #[inline(always)]
 fn word_of(text: &[u8], start: usize, end: usize) -> u64
@@ -217,76 +292,12 @@ fn is_int(kind: Kind) -> bool
     }
 }
 
-/// The first 32 bytes as bits: bit i is 1 where byte i is no digit.
+// The first 32 bytes as bits: bit i is 1 where byte i is no digit.
 #[inline(always)]
-pub(crate) fn others_in(text: &[u8]) -> u64
+fn others_in(text: &[u8]) -> u64
     requires { 31 < length text.now }
     ensures { result ≡ others (take 32 text.now) }
 {
     let from_zero = u8x32::from_slice(text) - u8x32::splat(b'0');
     from_zero.simd_ge(u8x32::splat(10)).to_bitmask()
-}
-
-// The cell at place `at`, where it is a number of at most seven digits that ends within the first
-// 32 bytes; `stops` has a bit for each of these bytes that is no digit. An `inner` cell ends in a
-// comma. None says nothing of the text.
-#[inline(always)]
-fn number_at(text: &[u8], stops: u64, at: usize, inner: bool) -> Option<CellAt>
-    requires long { 63 < length text.now }
-    requires within { at ≤ 32 }
-    requires stops { stops ≡ others (take 32 text.now) }
-    ensures { IfSome result (λ n. (n.end ≤ 32)
-        × BeginsWith Kind.Int (drop at text.now) n.value (drop n.end text.now) n.is_last) }
-{
-    let is_negative = text[at] == b'-';
-    let first = at + usize::from(is_negative);
-    let digits = stops >> first;
-    if digits == 0 {
-        return None;
-    }
-    let count = digits.trailing_zeros() as usize;
-    if count == 0 || count > 7 {
-        return None;
-    }
-    let is_last = cell_end(text[first + count], inner)?;
-    Some(CellAt {
-        value: signed(is_negative, value_of(&text[first..], count)),
-        end: first + count + 1,
-        is_last,
-    })
-}
-
-// The cell at place `at`, where it is the digit 0 or 1 and ends within the first 32 bytes. An `inner`
-// cell ends in a comma. None says nothing of the text.
-#[inline(always)]
-fn truth_at(text: &[u8], at: usize, inner: bool) -> Option<CellAt>
-    requires { 63 < length text.now }
-    ensures { IfSome result (λ n. (n.end ≤ 32)
-        × BeginsWith Kind.Bool (drop at text.now) n.value (drop n.end text.now) n.is_last) }
-{
-    if at > 30 {
-        return None;
-    }
-    let cell = small_bool(&text[at..], inner)?;
-    Some(CellAt {
-        value: cell.value,
-        end: at + 2,
-        is_last: cell.is_last,
-    })
-}
-
-/// The cell at place `at`, where it is a short number, or the digit of a Boolean, that ends within
-/// the first 32 bytes. None says nothing of the text.
-#[inline(always)]
-pub(crate) fn cell_at(kind: Kind, text: &[u8], stops: u64, at: usize, inner: bool) -> Option<CellAt>
-    requires long { 63 < length text.now }
-    requires within { at ≤ 32 }
-    requires stops { stops ≡ others (take 32 text.now) }
-    ensures { IfSome result (λ n. (n.end ≤ 32)
-        × BeginsWith kind (drop at text.now) n.value (drop n.end text.now) n.is_last) }
-{
-    match kind {
-        Kind::Int => number_at(text, stops, at, inner),
-        Kind::Bool => truth_at(text, at, inner),
-    }
 }

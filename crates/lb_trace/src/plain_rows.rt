@@ -9,8 +9,8 @@ ghost use Rattle.lb_trace.specs.Scan.{cell_of};
 use crate::cells::cell_value;
 use crate::fast_cells::{Value, small_cell};
 use crate::header::Column;
-use crate::numbers::{cell_at, four_numbers, last_four, others_in};
-use crate::row_cells::{make_long, put_four, put_one};
+use crate::numbers::{four_numbers, last_numbers};
+use crate::row_cells::{make_long, put_first, put_four, put_one};
 use crate::scan::next_cell;
 use crate::truths::four_cells;
 use lb_syntax::Kind;
@@ -95,43 +95,12 @@ fn last_cells<'t>(columns: &[Column], text: &'t [u8], cells: &mut [i32]) -> Opti
         (λ rest. (plain_row columns.now (record_of text.now) ≡ Some cells.new)
         × (rest.now ≡ after_line text.now)) }
 {
-    if let Some(numbers) = last_four(columns, text) {
+    if let Some(numbers) = last_numbers(columns, text) {
         let values = numbers.values;
-        put_four(cells, 0, values);
+        put_first(cells, values);
         return Some(numbers.rest);
     }
-    short_cells(columns, text, cells)
-}
-
-// `fill_line` for cells that are short. From the first cell on that is none, `other_cells`
-// reads them. It stays a call, so that the loop over inner cells keeps its registers.
-#[inline(never)]
-fn short_cells<'t>(columns: &[Column], text: &'t [u8], cells: &mut [i32]) -> Option<&'t [u8]>
-    requires { length cells.old ≡ length columns.now }
-    ensures { MatchOption result
-        (plain_row columns.now (record_of text.now) ≡ None)
-        (λ rest. (plain_row columns.now (record_of text.now) ≡ Some cells.new)
-        × (rest.now ≡ after_line text.now)) }
-{
-    if text.len() < 64 {
-        return other_cells(columns, text, cells);
-    }
-    let stops = others_in(text);
-    let mut at = 0;
-    for (i, column) in columns.iter().enumerate() {
-        let Some(cell) = cell_at(column.kind, text, stops, at, i + 1 < columns.len()) else {
-            return other_cells(&columns[i..], &text[at..], &mut cells[i..]);
-        };
-        put_one(cells, i, cell.value);
-        at = cell.end;
-        if cell.is_last {
-            if i + 1 != columns.len() {
-                return None;
-            }
-            return Some(&text[at..]);
-        }
-    }
-    None
+    other_cells(columns, text, cells)
 }
 
 // `fill_line` for cells of any length.

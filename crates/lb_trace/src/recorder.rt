@@ -1,13 +1,18 @@
 //! The traces of the records that have been read.
 
-ghost use Rattle.std.specs.Prelude.{◌≡◌, ◌<◌, ◌≤◌, ◌+◌, ◌*◌, ◌^◌, nat_le, nat_lt, [], length, map};
+ghost use Rattle.std.specs.Prelude.{◌≡◌, ◌<◌, ◌≤◌, ◌+◌, ◌*◌, ◌^◌, nat_le, nat_lt, [], ◌∷◌, length};
+ghost use Rattle.std.specs.Prelude.{map, ◌&&◌};
 ghost use Rattle.std.specs.Prelude.{Ok, IfOk, IfErr, OnErr, OnOk, IsTrue, IfSome, None, Some};
 ghost use Rattle.std.specs.List.{Contains};
 ghost use Rattle.csv.specs.Records.{fields_of};
+ghost use Rattle.lb_static.specs.Signature.{kinds_of};
 ghost use Rattle.lb_traces.specs.BitRows.{AreTruths, row_of_bits};
+ghost use Rattle.lb_traces.specs.Packed.{numbers_of, row_held, truth_columns};
 ghost use Rattle.lb_traces.specs.Traces.{IsRecording, IsTraceName, cells_of_instant, instants_of};
 ghost use Rattle.lb_traces.specs.Traces.{IsRow, last_rows, trace_names};
 ghost use Rattle.lb_trace.specs.Errors.{IsRefusal};
+ghost use Rattle.lb_trace.specs.Groups.{AllGroups};
+ghost use Rattle.lb_trace.specs.HeldLines.{kinds_in};
 ghost use Rattle.lb_trace.specs.Mirrors.{RowsFollow, add_by, go_on_by, knows, record_by, row_by};
 ghost use Rattle.lb_trace.specs.Lines.{after_line, record_of};
 ghost use Rattle.lb_trace.specs.Mirrors.{start_by, start_cells};
@@ -21,6 +26,7 @@ ghost use Rattle.lb_trace.specs.TruthBits.{AreTruthTable};
 use crate::copied::copy_record;
 use crate::error::TraceError;
 use crate::header::Column;
+use crate::held_rows::read_held;
 use crate::placed_rows::read_cells;
 use crate::record::width;
 use crate::record_name::{RecordName, name_of};
@@ -77,6 +83,16 @@ fn has_instants(set: &TraceSet) -> bool
     set.length(set.len() - 1) < 1_000_000
 }
 
+// Whether the limits have room for one more instant of the last trace.
+#[inline]
+fn has_room_in_last(set: &TraceSet) -> bool
+    requires { 0 < length set.now.traces }
+    ensures { result ≡ (nat_lt (length (last_rows set.now.traces)) 1000000
+        && nat_le ((instants_of set.now.traces + 1) * cells_of_instant set.now.signature) 67108864) }
+{
+    has_instants(set) && has_cells(set)
+}
+
 /// Adds one more row to the last trace, where the limits have room for it.
 #[inline(always)]
 pub(crate) fn push_to(rows: &mut TraceRows, row: &[i32], number: u64) -> Result<(), TraceError>
@@ -89,13 +105,41 @@ pub(crate) fn push_to(rows: &mut TraceRows, row: &[i32], number: u64) -> Result<
         (go_on_by rows.old.signature rows.old.traces (Some row.now))) }
     ensures kept { OnErr result (rows.new ≡ rows.old) }
 {
-    let set = rows.set();
-    if !has_instants(set) || !has_cells(set) {
+    if !has_room_in_last(rows.set()) {
         return Err(TraceError::Limit {
             record: Some(number),
         });
     }
     rows.push(row).map_err(TraceError::Memory)
+}
+
+// Adds one more row to the last trace, where the limits have room for it: its integers, and its
+// Booleans as the bits of a word.
+#[inline(always)]
+fn push_held_to(
+    rows: &mut TraceRows,
+    numbers: &[i32],
+    bits: u64,
+    number: u64,
+) -> Result<(), TraceError>
+    requires started { 0 < length rows.old.traces }
+    requires numbers { length numbers.now ≡ numbers_of (kinds_of rows.old.signature) }
+    requires truths { length (truth_columns 0 (kinds_of rows.old.signature)) ≤ 64 }
+    requires small { bits < 2 ^ length (truth_columns 0 (kinds_of rows.old.signature)) }
+    ensures ok { OnOk result (go_on_by rows.old.signature rows.old.traces
+        (Some (row_held (kinds_of rows.old.signature) numbers.now (bits ∷ [])))
+        ≡ Ok rows.new.traces) }
+    ensures signature { OnOk result (rows.new.signature ≡ rows.old.signature) }
+    ensures err { IfErr result (IsRefusal (go_on_by rows.old.signature rows.old.traces
+        (Some (row_held (kinds_of rows.old.signature) numbers.now (bits ∷ []))))) }
+    ensures kept { OnErr result (rows.new ≡ rows.old) }
+{
+    if !has_room_in_last(rows.set()) {
+        return Err(TraceError::Limit {
+            record: Some(number),
+        });
+    }
+    rows.push_held(numbers, bits).map_err(TraceError::Memory)
 }
 
 // Adds one more row to the last trace, where the limits have room for it; all its cells are
@@ -112,8 +156,7 @@ fn push_bits_to(rows: &mut TraceRows, bits: u64, number: u64) -> Result<(), Trac
         (Some (row_of_bits (length rows.old.signature) bits)))) }
     ensures kept { OnErr result (rows.new ≡ rows.old) }
 {
-    let set = rows.set();
-    if !has_instants(set) || !has_cells(set) {
+    if !has_room_in_last(rows.set()) {
         return Err(TraceError::Limit {
             record: Some(number),
         });
@@ -243,6 +286,10 @@ impl Recorder {
             × ArePlaced table.now.placed.items table.now.columns.items }
         requires truths { IsTrue table.now.are_truths
             → AreTruthTable self.old.rows.signature table.now.columns.items table.now.count }
+        requires groups { IfSome table.now.groups
+            (λ gs. AllGroups gs.items table.now.columns.items) }
+        requires same_kinds { kinds_in table.now.columns.items
+            ≡ kinds_of self.old.rows.signature }
         ensures ok { IfOk result (λ rest. record_by self.old.rows.signature table.now.columns.items
             table.now.count self.old.rows.traces (record_of text.now) ≡ Ok self.new.rows.traces) }
         ensures after { IfOk result (λ rest. rest.now ≡ after_line text.now) }
@@ -284,6 +331,10 @@ impl Recorder {
             × ArePlaced table.now.placed.items table.now.columns.items }
         requires truths { IsTrue table.now.are_truths
             → AreTruthTable self.old.rows.signature table.now.columns.items table.now.count }
+        requires groups { IfSome table.now.groups
+            (λ gs. AllGroups gs.items table.now.columns.items) }
+        requires same_kinds { kinds_in table.now.columns.items
+            ≡ kinds_of self.old.rows.signature }
         ensures ok { IfOk result (λ found. IfSome found (λ rest.
             record_by self.old.rows.signature table.now.columns.items table.now.count
             self.old.rows.traces (record_of text.now) ≡ Ok self.new.rows.traces)) }
@@ -329,6 +380,10 @@ impl Recorder {
         requires placed { IsTrue table.now.is_placed
             → (length table.now.placed.items ≡ table.now.count)
             × ArePlaced table.now.placed.items table.now.columns.items }
+        requires groups { IfSome table.now.groups
+            (λ gs. AllGroups gs.items table.now.columns.items) }
+        requires same_kinds { kinds_in table.now.columns.items
+            ≡ kinds_of self.old.rows.signature }
         requires first { HasName text.now name.bytes.now name.rest.now }
         requires same { name.is_same ≡ is_last name.bytes.now self.old.rows.traces }
         ensures ok { IfOk result (λ found. IfSome found (λ rest.
@@ -344,6 +399,13 @@ impl Recorder {
             table.now.columns.items table.now.count self.old.rows.traces (record_of text.now))) }
         ensures kept { OnErr result (self.new.rows ≡ self.old.rows) }
     {
+        if name.is_same && table.in_order {
+            if let Ok(Some(line)) = read_held(table, name.rest, &mut self.values) {
+                let numbers = &self.values.as_slice()[..line.count];
+                push_held_to(&mut self.rows, numbers, line.bits, number)?;
+                return Ok(Some(&name.rest[line.past..]));
+            }
+        }
         let Ok(line) = read_cells(table, name.rest, &mut self.values, &mut self.row) else {
             return Err(TraceError::Memory(AllocError));
         };

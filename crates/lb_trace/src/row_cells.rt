@@ -39,3 +39,14 @@ pub(crate) fn put_four(cells: &mut [i32], i: usize, values: [i32; 4])
     cells[i + 2] = c;
     cells[i + 3] = d;
 }
+
+/// Writes all cells, at most four, by the first of four values.
+#[inline(always)]
+pub(crate) fn put_first(cells: &mut [i32], values: [i32; 4])
+    requires { length cells.old ≤ 4 }
+    ensures { cells.new ≡ take (length cells.old) values }
+{
+    for i in 0..cells.len() {
+        put_one(cells, i, values[i]);
+    }
+}

@@ -8,6 +8,7 @@ ghost use Rattle.lb_trace.specs.PlainRows.{AreInOrder, ArePlaced, IsPlaced};
 ghost use Rattle.lb_trace.specs.Spelling.{is_header};
 ghost use Rattle.lb_trace.specs.Tables.{IsColumnTable};
 
+use crate::groups::{Group, groups_of};
 use crate::header::{Column, columns_of};
 use crate::record::width;
 use crate::truths::is_bool;
@@ -31,6 +32,8 @@ pub struct ColumnTable {
     pub(crate) is_placed: bool,
     /// Whether the columns stand in the order of the signature and are at most 64, all Booleans.
     pub(crate) are_truths: bool,
+    /// The groups of `columns`, if they are in groups.
+    pub(crate) groups: Option<Vec<Group>>,
 }
 
 // Not derived, so that a caller drops it in one step.
@@ -44,6 +47,7 @@ impl Drop for ColumnTable {
             placed: _,
             is_placed: _,
             are_truths: _,
+            groups: _,
         } = self;
     }
 }
@@ -67,6 +71,7 @@ pub fn table_of(
     let in_order = are_in_order(&columns, count);
     let placed = in_text_order(alloc, &columns, count)?;
     let is_placed = are_placed(&placed, &columns, count);
+    let groups = groups_of(alloc, &columns)?;
     Ok(Some(ColumnTable {
         header,
         columns,
@@ -75,6 +80,7 @@ pub fn table_of(
         placed,
         is_placed,
         are_truths: are_truths(signature, in_order),
+        groups,
     }))
 }
 

@@ -51,10 +51,10 @@ pub(crate) fn read_truths<'t>(text: &'t [u8], count: usize) -> Option<Truths<'t>
     })
 }
 
-// The bits of the first `count` cells of a text, where each is a digit 0 or 1 before a comma. None
-// says nothing of the text.
+/// The bits of the first `count` cells of a text, where each is a digit 0 or 1 before a comma. None
+/// says nothing of the text.
 #[inline(always)]
-fn inner_bits(text: &[u8], count: usize) -> Option<u64>
+pub(crate) fn inner_bits(text: &[u8], count: usize) -> Option<u64>
     requires { count ≤ 16 }
     ensures { IfSome result (λ bits. HasBits text.now count bits) }
 {

@@ -1,12 +1,11 @@
 use Rattle.std.proofs.Common.{◌++◌, sym, ap, ◌∙◌}
-use Rattle.csv.specs.Records.{fields_of}
 use Rattle.lb_trace.proofs.CopiedCells.{shorter-rest, cells-last, cells-more, line-last, line-more}
 use Rattle.lb_trace.proofs.copied.copy_record.Goals as goal
 
 pub returns-then-cell-clause-cells : goal.returns-then-cell-clause-cells
 returns-then-cell-clause-cells c =
     sym (c.cells.invariant.cells
-    ∙ cells-last (fields_of c.cells.entry) c.cells.rest.now _ _ _ _ _ c.next_cell-cell.ensures.cells
+    ∙ cells-last _ _ _ _ _ _ _ c.next_cell-cell.ensures.cells
     c.if-cell.true (ap (λ partial. partial ++ c.next_cell-cell.result.bytes.now)
     c.cells.invariant.begun)
     c.in_ok-push_field.ensures.fields)
@@ -19,8 +18,7 @@ returns-then-cell-clause-after c =
 pub cells-preserved : goal.cells-preserved
 cells-preserved c = record {
   cells = c.cells.invariant.cells
-      ∙ cells-more (fields_of c.cells.entry) c.cells.rest.now _ _ _ _ _
-      c.next_cell-cell.ensures.cells
+      ∙ cells-more _ _ _ _ _ _ _ c.next_cell-cell.ensures.cells
       c.if-cell.false (ap (λ partial. partial ++ c.next_cell-cell.result.bytes.now)
       c.cells.invariant.begun)
       c.in_ok-push_field.ensures.fields;

@@ -5,7 +5,7 @@ use Rattle.lb_trace.proofs.fast_cells.small_number.Goals as goal
 pub returns-then-not-is_ascii_digit : goal.returns-then-not-is_ascii_digit
 returns-then-not-is_ascii_digit c =
     let a = c.loop-i.invariant in
-    number-ended c.args.text.now c.loop-i.i c.loop-i.n c.in_ok-is_last.is_last c.loop-i-test.true
+    number-ended _ _ _ _ c.loop-i-test.true
     (omega arith) a.few a.small a.digits a.value c.in_ok-is_last.ensures
 
 pub overflow_mul-n : goal.overflow_mul-n

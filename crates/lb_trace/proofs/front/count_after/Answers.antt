@@ -8,6 +8,5 @@ returns-then-others-eq0 c = counts-none c.args.is_negative c.args.text.now
 
 pub returns : goal.returns
 returns c =
-    counts c.args.is_negative c.args.text.now c.others.result c.without_sign-others.result _
-    c.requires c.others.ensures c.without_sign-others.ensures
+    counts _ _ _ _ _ c.requires c.others.ensures c.without_sign-others.ensures
     (omega (arith, c.if-others-eq0.false)) refl

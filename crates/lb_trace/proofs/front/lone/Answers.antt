@@ -8,5 +8,5 @@ overflow_sub-result c =
 
 pub returns : goal.returns
 returns c =
-    (lone-read c.args.text.now c.args.count c.first_eight.result c.requires.room c.requires.some
+    (lone-read _ _ _ c.requires.room c.requires.some
     c.requires.few c.requires.digits c.type_inv.text c.first_eight.ensures).1

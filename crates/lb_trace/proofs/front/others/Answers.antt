@@ -8,6 +8,6 @@ pub returns : goal.returns
 returns c =
     let v = take 8 c.args.text.now in
     let long = length-take-le 8 c.args.text.now c.requires in
-    others-of c.args.text.now 8 _ _ _ c.requires (omega arith) c.type_inv.text refl
+    others-of _ _ _ _ _ c.requires (omega arith) c.type_inv.text refl
     (joined (λ a b. cond (leb a b) 255 0) _ _ v (splat_is v 8 10 long)
     (zip2_splat {Y = ℕ} _ v 8 48 long)) refl

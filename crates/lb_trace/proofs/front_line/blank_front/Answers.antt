@@ -9,8 +9,8 @@ loop-i-init c = record { blank = plain-none; ended = λ some. absurd (omega (ari
 
 pub loop-i-preserved : goal.loop-i-preserved
 loop-i-preserved c = record {
-  blank = blank-more c.args.text.now c.loop-i.i _ c.loop-i-test.true refl
+  blank = blank-more _ _ _ c.loop-i-test.true refl
       (sym c.if-not-ends_line.ensures) c.loop-i.invariant.blank;
-  ended = λ some. ended-at c.args.text.now c.loop-i.i _ c.loop-i-test.true refl
+  ended = λ some. ended-at _ _ _ c.loop-i-test.true refl
       (sym c.if-not-ends_line.ensures);
 }

@@ -14,7 +14,7 @@ line_len-requires c = λ some.
 
 pub returns-clause-first : goal.returns-clause-first
 returns-clause-first c =
-    filled-first c.args.text.now c.blank_front-blank.result c.line_len.result
+    filled-first _ _ _
     c.blank_front-blank.ensures.blank c.blank_front-blank.ensures.ended c.line_len.ensures.first
 
 pub returns-clause-ended : goal.returns-clause-ended

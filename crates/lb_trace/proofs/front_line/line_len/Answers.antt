@@ -5,17 +5,16 @@ use Rattle.lb_trace.proofs.front_line.line_len.Goals as goal
 
 pub loop-i-preserved : goal.loop-i-preserved
 loop-i-preserved c =
-    no_end-more c.args.text.now c.loop-i.i _ c.loop-i-test.true refl (sym c.if-ends_line.ensures)
-    c.loop-i.invariant
+    no_end-more _ _ _ c.loop-i-test.true refl (sym c.if-ends_line.ensures) c.loop-i.invariant
 
 pub returns-then-ends_line-clause-first : goal.returns-then-ends_line-clause-first
 returns-then-ends_line-clause-first c =
-    first-found c.args.text.now c.loop-i.i _ c.loop-i-test.true refl (sym c.if-ends_line.ensures)
+    first-found _ _ _ c.loop-i-test.true refl (sym c.if-ends_line.ensures)
     c.requires c.loop-i.invariant
 
 pub returns-then-ends_line-clause-ended : goal.returns-then-ends_line-clause-ended
 returns-then-ends_line-clause-ended c = λ short.
-    ended-at c.args.text.now c.loop-i.i _ c.loop-i-test.true refl (sym c.if-ends_line.ensures)
+    ended-at _ _ _ c.loop-i-test.true refl (sym c.if-ends_line.ensures)
 
 pub returns-clause-first : goal.returns-clause-first
 returns-clause-first c =

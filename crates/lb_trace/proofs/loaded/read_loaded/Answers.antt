@@ -16,11 +16,8 @@ returns g c =
     let same = ap (λ (r : Recording). r.signature) c.into_set-set.ensures ∙ found.3.0 in (
       found.1.chunks,
       given-chunks _ elements table c.in-Some.most c.args.numbers.now found.0 found.1,
-      is_reading elements _ c.into_set-set.result same
-          (loaded_spells _ elements table c.in-Some.most c.args.first.now c.strip_bom-body.result.now
-          c.in-Ok-Some.begun.rest.now c.args.numbers.now
-          (instants c.in-Ok.recorder.rows.traces) found.0 c.into_set-set.result
-          (omega (arith, c.if-first-lt3.false))
+      is_reading _ _ _ same
+          (loaded_spells _ _ _ _ _ _ _ _ _ _ _ (omega (arith, c.if-first-lt3.false))
           (sym c.is_ended.ensures ∙ c.if-not-is_ended.false) c.strip_bom-body.ensures
           (not-true _ (sym c.is_plain.ensures.value ∙ c.if-not-is_plain.false))
           begun.0 begun.1 c.in-Ok.ensures.0.1 found.1 c.in-Some.ensures

@@ -1,6 +1,6 @@
 use Rattle.std.proofs.Common.{arith}
-use Rattle.lb_trace.proofs.FourNumbers.{ends-past}
 use Rattle.lb_trace.proofs.NumberEnds.{inside-from, others-below}
+use Rattle.lb_trace.proofs.ShortCells.{ends-past}
 use Rattle.lb_trace.proofs.numbers.ends_in.Goals as goal
 
 pub overflow_mul-result : goal.overflow_mul-result
@@ -19,12 +19,13 @@ overflow_add-result c =
           c.others_in-others.ensures,
     )
 
-pub returns-clause-inside : goal.returns-clause-inside
-returns-clause-inside c = λ i below none.
-    inside-from c.args.text.now c.others_in-others.result c.minus_in-minus.result i c.requires
-    c.others_in-others.ensures c.minus_in-minus.ensures below none
-
-pub returns-clause-past : goal.returns-clause-past
-returns-clause-past c = λ i above.
-    ends-past c.args.text.now c.others_in-others.result c.minus_in-minus.result i c.requires
-    c.others_in-others.ensures c.minus_in-minus.ensures above
+pub returns : goal.returns
+returns c = record {
+  inside = λ i above below none.
+      inside-from c.args.text.now c.others_in-others.result c.minus_in-minus.result i c.requires
+      c.others_in-others.ensures c.minus_in-minus.ensures below none;
+  past = λ i above.
+      ends-past c.args.text.now c.others_in-others.result c.minus_in-minus.result i c.requires
+      c.others_in-others.ensures c.minus_in-minus.ensures above;
+  gone = λ i below. absurd (omega (arith, below));
+}

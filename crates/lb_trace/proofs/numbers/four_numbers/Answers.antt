@@ -1,18 +1,17 @@
-use Rattle.std.proofs.Common.{◌+◌, drop, subst, sym}
-use Rattle.std.proofs.lemmas.List.{take_rest}
-use Rattle.lb_trace.specs.TruthCells.{GoesOn}
-use Rattle.lb_trace.proofs.FourNumbers.{four-on, integers-long}
+use Rattle.std.proofs.Common.{Option, Some, None}
+use Rattle.std.specs.Prelude.{IfSome}
+use Rattle.lb_trace.proofs.ShortCells.{integers-long}
 use Rattle.lb_trace.proofs.numbers.four_numbers.Goals as goal
+
+-- what holds of each value of an option holds of the one that there is
+of-some : {A : Type 0} (o : Option A) {P Q : A → Type 0} → ((a : A) → P a → Q a) → IfSome o P
+    → IfSome o Q
+of-some None more given = tt
+of-some (Some a) more given = more a given
 
 pub returns : goal.returns
 returns c =
+    let columns = c.args.columns.now in
     let ints = c.are_integers.ensures c.if-not-are_integers.false in
-    let four = c.in_ok-four.ensures in
-    let end = c.in_ok-four.four.end in (
-      integers-long c.args.columns.now ints,
-      subst
-          (λ rest. GoesOn c.args.columns.now c.args.text.now c.in_ok-four.four.values
-          (drop 4 c.args.columns.now) rest) (sym (take_rest c.args.text.now (end + 1)))
-          (four-on c.args.columns.now c.args.text.now c.in_ok-four.four.values end ints four.1 four.2
-          c.if-text-four-ne44.false),
-    )
+    of-some c.four_in.result
+    (λ found each. (integers-long columns ints, each columns ints)) c.four_in.ensures

@@ -8,6 +8,6 @@ pub returns : goal.returns
 returns c =
     let v = take 32 c.args.text.now in
     let long = length-take-le 32 c.args.text.now c.requires in
-    others-of c.args.text.now 32 _ _ _ c.requires (omega arith) c.type_inv.text refl
+    others-of _ _ _ _ _ c.requires (omega arith) c.type_inv.text refl
     (joined (λ a b. cond (leb a b) 255 0) _ _ v (splat_is v 32 10 long)
     (zip2_splat {Y = ℕ} _ v 32 48 long)) refl

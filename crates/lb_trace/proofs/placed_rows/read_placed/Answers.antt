@@ -10,16 +10,15 @@ take_places-requires c =
     let read = rw c.in-Some.is at c.in_ok-past.ensures in
     subst (λ (vs : List ℤ). All (λ (column : Column). column.at < length vs) c.args.columns.now)
     (sym c.deref.ensures.value)
-    (places_within c.args.columns.now c.args.placed.now (record_of c.args.text.now)
-    c.read_line.new.row.items read.0 c.requires)
+    (places_within _ _ _ _ read.0 c.requires)
 
 pub returns : goal.returns
 returns c =
     let read = rw c.in-Some.is at c.in_ok-past.ensures in
     let cells = record_of c.args.text.now in
     let values = c.read_line.new.row.items in (
-      cells_placed c.args.placed.now cells values read.0,
-      row_placed c.args.columns.now c.args.placed.now cells values read.0 c.requires
+      cells_placed _ _ _ read.0,
+      row_placed _ _ _ _ read.0 c.requires
           ∙ ap Some (sym (c.in_ok-take_places.ensures
           ∙ ap (λ (vs : List ℤ). map (λ (column : Column). get_or vs column.at (pos 0))
           c.args.columns.now) c.deref.ensures.value)),

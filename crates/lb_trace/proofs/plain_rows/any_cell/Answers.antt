@@ -7,7 +7,5 @@ pub returns : goal.returns
 returns c =
     let e = c.next_cell-cell.ensures in
     let cell = c.next_cell-cell.result in
-    begins-stored c.args.kind c.args.text.now cell.rest.now c.in-Some-cell_value.value cell.is_last
-    (search rules)
-    (begins-from c.args.kind c.args.text.now cell.bytes.now cell.rest.now c.in-Some-cell_value.value
-    cell.is_last e.bytes c.in-Some-cell_value.ensures e.rest e.last)
+    begins-stored _ _ _ _ _ (search rules)
+    (begins-from _ _ _ _ _ _ e.bytes c.in-Some-cell_value.ensures e.rest e.last)

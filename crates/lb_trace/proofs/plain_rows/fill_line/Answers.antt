@@ -1,7 +1,6 @@
-use Rattle.std.proofs.Common.{◌+◌, ◌-◌, ◌∙◌, ap, sym, refl, drop, length}
+use Rattle.std.proofs.Common.{◌+◌, ◌∙◌, ap, sym, refl, drop}
 use Rattle.std.proofs.Common.{arith, take}
 use Rattle.std.proofs.lemmas.List.{take_rest}
-use Rattle.lb_trace.specs.declared.header.Column.{Column}
 use Rattle.lb_trace.specs.Lines.{record_of}
 use Rattle.lb_trace.specs.PlainRows.{onto, plain_row}
 use Rattle.lb_trace.proofs.PlainValues.{after-more, onto-nil, pushed-value, row-more, row-short}
@@ -80,7 +79,6 @@ pub returns : goal.returns
 returns c =
     let columns = c.args.columns.now in
     let i = c.loop-i.i in
-    tail-read c.last_cells.result columns (take (length columns - i) (drop i columns)) i
-    c.args.text.now c.loop-i.rest.now (take i c.loop-i.cells) c.last_cells.new.cells _
+    tail-read _ _ _ _ _ _ _ _ _
     (take_rest columns i) c.loop-i.invariant.cells c.loop-i.invariant.after
     (put-tail c.loop-i.cells c.last_cells.new.cells i) c.last_cells.ensures

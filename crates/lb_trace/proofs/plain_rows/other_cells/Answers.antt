@@ -1,4 +1,4 @@
-use Rattle.std.proofs.Common.{◌+◌, ◌∙◌, ap, sym, refl, drop, arith, take}
+use Rattle.std.proofs.Common.{◌+◌, ◌∙◌, ap, sym, refl, drop, arith}
 use Rattle.std.proofs.lemmas.List.{take_all}
 use Rattle.lb_trace.specs.Lines.{record_of}
 use Rattle.lb_trace.specs.PlainRows.{onto, plain_row}
@@ -22,15 +22,11 @@ loop-i-preserved c =
     let i = c.loop-i.i in
     record {
       cells = c.loop-i.invariant.cells
-          ∙ row-more columns i _ _ c.loop-i.rest.now cell.rest.now cell.value
-          (take i c.loop-i.cells) cell.is_last c.loop-i-test.true refl c.in-Some.ensures
-          c.if-cell.false
+          ∙ row-more _ _ _ _ _ _ _ _ _ c.loop-i-test.true refl c.in-Some.ensures c.if-cell.false
           ∙ ap (λ r. onto r (plain_row (drop (i + 1) columns) (record_of cell.rest.now)))
-          (sym (pushed-value _ (take i c.loop-i.cells) cell.value (search rules)
-          c.put_one.ensures.front));
+          (sym (pushed-value _ _ _ (search rules) c.put_one.ensures.front));
       after = c.loop-i.invariant.after
-          ∙ after-more _ c.loop-i.rest.now cell.rest.now cell.value cell.is_last c.in-Some.ensures
-          c.if-cell.false;
+          ∙ after-more _ _ _ _ _ c.in-Some.ensures c.if-cell.false;
       long = c.put_one.ensures.long ∙ c.loop-i.invariant.long;
     }
 
@@ -38,33 +34,28 @@ pub returns-then-i-columns : goal.returns-then-i-columns
 returns-then-i-columns c =
     let cell = c.in-Some.cell in
     c.loop-i.invariant.cells
-    ∙ row-short c.args.columns.now c.loop-i.i _ _ c.loop-i.rest.now cell.rest.now cell.value
-    (take c.loop-i.i c.loop-i.cells) cell.is_last c.loop-i-test.true refl c.in-Some.ensures
+    ∙ row-short _ _ _ _ _ _ _ _ _ c.loop-i-test.true refl c.in-Some.ensures
     c.if-cell.true (omega arith)
 
 pub returns-then-cell : goal.returns-then-cell
 returns-then-cell c =
     let cell = c.in-Some.cell in (
       c.loop-i.invariant.cells
-          ∙ row-full c.args.columns.now c.loop-i.i _ _ c.loop-i.rest.now cell.rest.now cell.value
-          (take c.loop-i.i c.loop-i.cells) cell.is_last c.loop-i-test.true refl c.in-Some.ensures
+          ∙ row-full _ _ _ _ _ _ _ _ _ c.loop-i-test.true refl c.in-Some.ensures
           c.if-cell.true (omega arith)
-          ∙ ap Some (sym (pushed-value _ (take c.loop-i.i c.loop-i.cells) cell.value
-          (search rules) c.put_one.ensures.front)
+          ∙ ap Some (sym (pushed-value _ _ _ (search rules) c.put_one.ensures.front)
           ∙ take_all (c.loop-i.i + 1) c.put_one.new.cells
           (omega (arith, c.put_one.ensures.long, c.loop-i.invariant.long))),
-      after-last _ c.loop-i.rest.now cell.rest.now cell.value cell.is_last c.in-Some.ensures
+      after-last _ _ _ _ _ c.in-Some.ensures
           c.if-cell.true ∙ sym c.loop-i.invariant.after,
     )
 
 pub returns : goal.returns
 returns c =
     c.loop-i.invariant.cells
-    ∙ row-long c.args.columns.now c.loop-i.i c.loop-i.rest.now (take c.loop-i.i c.loop-i.cells)
-    c.loop-i-test.false
+    ∙ row-long _ _ _ _ c.loop-i-test.false
 
 pub returns-in_default : goal.returns-in_default
 returns-in_default c =
     c.loop-i.invariant.cells
-    ∙ row-none c.args.columns.now c.loop-i.i _ _ c.loop-i.rest.now
-    (take c.loop-i.i c.loop-i.cells) c.loop-i-test.true refl c.in_default.ensures
+    ∙ row-none _ _ _ _ _ _ c.loop-i-test.true refl c.in_default.ensures

@@ -18,8 +18,7 @@ pub returns-then-not-branch : goal.returns-then-not-branch
 returns-then-not-branch c =
     let none = rw c.if-not-branch.true at
     (c.in_ok-next.ensures.goes c.args.text.now [] c.requires.reaches) in
-    is_refusal c.args.signature.now c.args.text.now fault.Header
-    (refused c.args.signature.now c.args.text.now 14
+    is_refusal _ _ _ (refused _ _ _
     (no_header c.args.signature.now c.args.text.now c.requires.short none))
 
 pub returns-in_default-header : goal.returns-in_default-header
@@ -27,18 +26,14 @@ returns-in_default-header c =
     let at = rw c.if-not-branch.false at
     (c.in_ok-next.ensures.goes c.args.text.now [] c.requires.reaches) in
     let other = rw c.in_default-header.is at c.in-Ok.ensures in
-    is_refusal c.args.signature.now c.args.text.now fault.Header
-    (refused c.args.signature.now c.args.text.now 14
-    (other_header c.args.signature.now c.args.text.now (fields_of c.next.new.entry)
-    c.next.new.reader at c.requires.short other))
+    is_refusal _ _ _ (refused _ _ _ (other_header _ _ _ _ at c.requires.short other))
 
 pub loop-number-init : goal.loop-number-init
 loop-number-init c =
     let at = rw c.if-not-branch.false at
     (c.in_ok-next.ensures.goes c.args.text.now [] c.requires.reaches) in
     record {
-      progress = progress-start c.args.signature.now c.args.text.now (fields_of c.next.new.entry)
-          c.in-Ok-new.recorder.rows.traces c.next.new.reader at
+      progress = progress-start _ _ _ _ _ at
           (ap (λ (r : Recording). r.traces) c.in-Ok-new.ensures.rows);
       follows = ap (λ (r : Recording). r.signature) c.in-Ok-new.ensures.rows;
       known = c.in-Ok-new.ensures.names;

@@ -1,5 +1,5 @@
 -- A text is read by its kind: without quotes in one pass, else by csv.
-use Rattle.std.proofs.Common.{None, sym, ap, ◌∙◌, rules}
+use Rattle.std.proofs.Common.{sym, ap, ◌∙◌, rules}
 use Rattle.csv.specs.Reading.{default_config, records}
 use Rattle.lb_trace.specs.declared.error.TraceError.TheVariants as fault
 use Rattle.lb_trace.specs.Spelling.{records_of}
@@ -9,8 +9,7 @@ use Rattle.lb_trace.proofs.read.read_traces.Goals as goal
 
 pub returns-then-text-gt-MOST_BYTES : goal.returns-then-text-gt-MOST_BYTES
 returns-then-text-gt-MOST_BYTES c =
-    is_refusal c.args.signature.now c.args.text.now (fault.Limit None)
-    (refused c.args.signature.now c.args.text.now 18
+    is_refusal _ _ _ (refused _ _ _
     (outcome-long c.args.signature.now c.args.text.now c.if-text-gt-MOST_BYTES.true))
 
 pub read_plain-requires-clause-plain : goal.read_plain-requires-clause-plain

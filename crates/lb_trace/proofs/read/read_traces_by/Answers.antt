@@ -6,7 +6,7 @@ use Rattle.lb_trace.proofs.read.read_traces_by.Goals as goal
 
 pub returns-in-Some : goal.returns-in-Some
 returns-in-Some g c =
-    is_reading c.args.signature.now c.args.text.now c.in-Some.set c.in-Some.ensures.signature
+    is_reading _ _ _ c.in-Some.ensures.signature
     (c.in-Some.ensures.spelled c.args.text.now (omega arith)
-    (cut_records c.args.text.now c.strip_bom.result.now c.in-Ok.parts.items c.deref.result.now
+    (cut_records _ _ _ _
     c.strip_bom.ensures c.in-Ok.ensures.records c.in-Ok.ensures.quotes c.deref.ensures.value))

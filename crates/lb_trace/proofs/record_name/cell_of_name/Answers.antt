@@ -11,5 +11,5 @@ returns c =
     let same : take (length name) text ≡ name =
     (bytes_eq-Decides (take (length name) text) name).0
     (not-other (bytes_eq (take (length name) text) name) c.if-ne.ensures) in
-    name-first name text (length name) c.requires refl (omega (arith, c.if-text-count.false)) same
+    name-first _ _ _ c.requires refl (omega (arith, c.if-text-count.false)) same
     c.if-text-count-ne44.false

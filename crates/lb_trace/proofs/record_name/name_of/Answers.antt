@@ -11,16 +11,12 @@ use Rattle.lb_trace.proofs.record_name.name_of.Goals as goal
 pub returns-in-Some-clause-cells : goal.returns-in-Some-clause-cells
 returns-in-Some-clause-cells c =
     let cell = c.in-Some.cell in
-    first-record c.args.text.now cell.bytes.now cell.rest.now cell.is_last
-    (named-first c.as_bytes.result.now c.args.text.now cell.bytes.now cell.rest.now cell.is_last
-    c.in-Some.ensures)
+    first-record _ _ _ cell.is_last (named-first _ _ _ _ _ c.in-Some.ensures)
 
 pub returns-in-Some-clause-after : goal.returns-in-Some-clause-after
 returns-in-Some-clause-after c =
     let cell = c.in-Some.cell in
-    first-after c.args.text.now cell.bytes.now cell.rest.now cell.is_last
-    (named-first c.as_bytes.result.now c.args.text.now cell.bytes.now cell.rest.now cell.is_last
-    c.in-Some.ensures)
+    first-after _ _ _ _ (named-first _ _ _ _ _ c.in-Some.ensures)
 
 pub returns-in-Some-clause-same : goal.returns-in-Some-clause-same
 returns-in-Some-clause-same c =

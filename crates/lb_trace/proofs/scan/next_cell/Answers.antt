@@ -5,8 +5,7 @@ use Rattle.lb_trace.proofs.scan.next_cell.Goals as goal
 
 pub returns-in-Some : goal.returns-in-Some
 returns-in-Some c =
-    let first = first-ended c.args.text.now c.loop-i.i _ c.in-Some.is_last c.loop-i-test.true refl
-    c.in-Some.ensures c.loop-i.invariant in
+    let first = first-ended _ _ _ _ c.loop-i-test.true refl c.in-Some.ensures c.loop-i.invariant in
     record {
       cells = first-record _ _ _ _ first;
       after = first-after _ _ _ _ first;
@@ -16,7 +15,7 @@ returns-in-Some c =
     }
 
 pub loop-i-preserved : goal.loop-i-preserved
-loop-i-preserved c = walked-more c.args.text.now c.loop-i.i _ c.loop-i-test.true refl
+loop-i-preserved c = walked-more _ _ _ c.loop-i-test.true refl
     c.in_default.ensures c.loop-i.invariant
 
 pub returns : goal.returns

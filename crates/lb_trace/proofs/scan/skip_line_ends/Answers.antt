@@ -6,14 +6,12 @@ use Rattle.lb_trace.proofs.scan.skip_line_ends.Goals as goal
 
 pub returns-then-not-ends_line : goal.returns-then-not-ends_line
 returns-then-not-ends_line c =
-    skipped-to c.args.text.now c.loop-i.i _ c.loop-i-test.true refl (sym c.if-not-ends_line.ensures)
-    c.loop-i.invariant
+    skipped-to _ _ _ c.loop-i-test.true refl (sym c.if-not-ends_line.ensures) c.loop-i.invariant
     ∙ ap begun_records (sym (take_rest c.args.text.now c.loop-i.i))
 
 pub loop-i-preserved : goal.loop-i-preserved
 loop-i-preserved c =
-    skipped-more c.args.text.now c.loop-i.i _ c.loop-i-test.true refl
-    (sym c.if-not-ends_line.ensures) c.loop-i.invariant
+    skipped-more _ _ _ c.loop-i-test.true refl (sym c.if-not-ends_line.ensures) c.loop-i.invariant
 
 pub returns : goal.returns
 returns c =

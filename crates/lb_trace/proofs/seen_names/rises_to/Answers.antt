@@ -1,5 +1,5 @@
 -- The name of the last trace is that of the trace at the last place.
-use Rattle.std.proofs.Common.{arith, ◌-◌, ◌<◌, length, ap, ◌∙◌}
+use Rattle.std.proofs.Common.{arith, ◌<◌, length, ap, ◌∙◌}
 use Rattle.lb_trace.specs.Mirrors.{is_below}
 use Rattle.lb_trace.proofs.KnownNames.{rises-none, rises_at}
 use Rattle.lb_trace.proofs.seen_names.rises_to.Goals as goal
@@ -14,5 +14,4 @@ returns c =
     let some : 0 < length c.args.traces.now.traces =
     omega (arith, c.len-count.ensures.count, c.if-count-eq0.false) in
     c.is_below.ensures ∙ ap (λ last. is_below last c.args.name.now) c.name.ensures
-    ∙ rises_at c.args.name.now c.args.traces.now.traces (c.len-count.result - 1) some
-    (omega (arith, c.len-count.ensures.count))
+    ∙ rises_at _ _ _ some (omega (arith, c.len-count.ensures.count))

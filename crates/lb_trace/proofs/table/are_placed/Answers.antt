@@ -1,14 +1,12 @@
 use Rattle.std.proofs.Common.{subst, arith, rules}
 use Rattle.std.proofs.lemmas.List.{take_all}
-use Rattle.lb_syntax.specs.declared.tree.Kind.TheVariants.{Int}
 use Rattle.lb_trace.specs.PlainRows.{ArePlaced}
 use Rattle.lb_trace.proofs.OrderedColumns.{one_more_placed}
 use Rattle.lb_trace.proofs.table.are_placed.Goals as goal
 
 pub loop-column-preserved : goal.loop-column-preserved
 loop-column-preserved c =
-    one_more_placed c.args.placed.now c.args.table.now c.loop-column.column-index
-    (record { at = 0; kind = Int }) c.loop-column-test.true c.loop-column.invariant
+    one_more_placed _ _ _ _ c.loop-column-test.true c.loop-column.invariant
     (c.is_placed.ensures c.if-not-is_placed.false)
 
 pub returns : goal.returns

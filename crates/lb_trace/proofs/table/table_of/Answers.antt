@@ -1,7 +1,5 @@
 -- A header has its table of columns.
 use Rattle.std.proofs.Common.{refl}
-use Rattle.csv.specs.Records.{fields_of}
-use Rattle.lb_trace.specs.Spelling.{after_first}
 use Rattle.lb_trace.proofs.Nexts.{truth-table}
 use Rattle.lb_trace.proofs.table.table_of.Goals as goal
 
@@ -19,8 +17,7 @@ returns c =
             c.are_placed-is_placed.ensures;
         truths = λ told.
             let both = c.are_truths.ensures told in
-            truth-table c.args.signature.now c.in-Some.columns.items
-            (after_first (fields_of c.args.header)) c.width-count.result headed.1 (order both.0)
-            both.1;
+            truth-table _ _ _ _ headed.1 (order both.0) both.1;
+        groups = rw c.deref-5.ensures.value at c.in_ok-groups.ensures;
       },
     )

@@ -8,8 +8,7 @@ use Rattle.lb_trace.proofs.truth_bits.read_truths.Goals as goal
 pub overflow_add-bits : goal.overflow_add-bits
 overflow_add-bits c =
     let group = c.in-Some.ensures in
-    let fit = bits-fit c.loop-done.bits c.in-Some.group c.loop-done.done c.min-more.result
-    c.loop-done.invariant.read.small group.small
+    let fit = bits-fit _ _ _ _ c.loop-done.invariant.read.small group.small
     (omega (arith, c.min-more.ensures, c.requires.few, c.loop-done.invariant.most)) in
     omega (arith, fit.0, fit.2)
 
@@ -21,7 +20,7 @@ loop-done-preserved c =
     record {
       most = omega (arith, c.min-more.ensures, c.loop-done.invariant.most);
       read =
-          bits-joined text done more c.loop-done.bits c.in-Some.group
+          bits-joined _ _ _ _ _
           (omega (arith, c.min-more.ensures, c.loop-done-test.true, c.requires.few))
           c.loop-done.invariant.read
           (subst (λ t. HasBits t more c.in-Some.group) c.loop-done.invariant.after

@@ -1,14 +1,12 @@
 -- The line before a place has the name too, or has another name, or there is none.
-use Rattle.std.proofs.Common.{◌-◌, ◌/◌, sym, ◌∙◌, arith}
+use Rattle.std.proofs.Common.{sym, ◌∙◌, arith}
 use Rattle.std.proofs.lemmas.Slice.Eq.{bytes_eq-Decides}
 use Rattle.lb_trace.proofs.LastLines.{searched_all, searched_none, searched_other, searched_same}
 use Rattle.lb_trace.proofs.whole.whole_traces.Goals as goal
 
 pub lines-preserved-then-eq : goal.lines-preserved-then-eq
 lines-preserved-then-eq c =
-    searched_same c.args.text.now c.name_at-name.result.now c.lines.start c.lines.other
-    (c.lines.start - (c.lines.start - c.lines.other) / 2) c.in-Some-line_before.line
-    c.lines.invariant (omega (arith, c.lines-test.true)) (omega arith)
+    searched_same _ _ _ _ _ _ c.lines.invariant (omega (arith, c.lines-test.true)) (omega arith)
     c.in-Some-line_before.ensures
     (sym c.name_at.ensures
     ∙ (bytes_eq-Decides c.name_at.result.now c.name_at-name.result.now).0
@@ -16,9 +14,7 @@ lines-preserved-then-eq c =
 
 pub lines-preserved-in_default-line_before : goal.lines-preserved-in_default-line_before
 lines-preserved-in_default-line_before c =
-    searched_other c.args.text.now c.name_at-name.result.now c.lines.start c.lines.other
-    (c.lines.start - (c.lines.start - c.lines.other) / 2) c.in-Some-line_before.line
-    c.lines.invariant (omega arith) c.in-Some-line_before.ensures
+    searched_other _ _ _ _ _ _ c.lines.invariant (omega arith) c.in-Some-line_before.ensures
     (λ same. cc (
       c.if-eq.false,
       c.eq.ensures,
@@ -28,9 +24,7 @@ lines-preserved-in_default-line_before c =
 
 pub lines-preserved : goal.lines-preserved
 lines-preserved c =
-    searched_none c.args.text.now c.name_at-name.result.now c.lines.start c.lines.other
-    (c.lines.start - (c.lines.start - c.lines.other) / 2) c.lines.invariant (omega arith)
-    c.in_default-line_before.ensures
+    searched_none _ _ _ _ _ c.lines.invariant (omega arith) c.in_default-line_before.ensures
 
 pub returns-in-Some-line_before-2-clause-whole : goal.returns-in-Some-line_before-2-clause-whole
 returns-in-Some-line_before-2-clause-whole c = λ some.

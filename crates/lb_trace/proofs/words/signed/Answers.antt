@@ -4,6 +4,6 @@ use Rattle.lb_trace.proofs.words.signed.Goals as goal
 
 pub returns : goal.returns
 returns c =
-    values-are c.args.minus c.args.numbers c.turned_of-turned.result c.requires.minus
+    values-are _ _ _ c.requires.minus
     c.requires.long c.turned_of-turned.ensures.long c.requires.small
     c.turned_of-turned.ensures.small c.turned_of-turned.ensures.lanes

@@ -10,7 +10,7 @@ returns-clause-lanes c = λ j below.
 
 pub returns-clause-small : goal.returns-clause-small
 returns-clause-small c =
-    turned-small c.args.minus c.args.numbers _
+    turned-small _ _ _
     (turned-long c.args.minus c.args.numbers c.requires.minus c.requires.long) c.requires.long
     c.requires.small
     (λ j below.

@@ -23,10 +23,7 @@ returns g c =
     IfOk-then c.collect.result _ _ c.collect.ensures (λ outer h.
     let chain = rw (c.map.ensures.base, c.map.ensures.f, c.with_min_len.ensures.base) at h.1 in
     MatchResult-weaker outer h.2 (λ sets k.
-    reads-round _ reader.signature.now reader.table.now reader.most size numbers sets.items
-    (omega arith)
-    (slice-AllZip chain.0 (chunks_of size numbers)
-    (chain.1
+    reads-round _ _ _ _ _ _ _ (omega arith) (slice-AllZip chain.0 (chunks_of size numbers) (chain.1
     ∙ (λ i. chunks_of (max (c.par_chunks.ensures.size i) 1) (c.par_chunks.ensures.slice i)))
     R sets.items
     (of_collected (λ (span : Bor (List ℕ)) (one : Recorder). R span.now one) chain.0 h.0

@@ -13,8 +13,7 @@ use Rattle.lb_trace.proofs.recorder.Recorder.add.Goals as goal
 
 pub returns-in_default-clause-err : goal.returns-in_default-clause-err
 returns-in_default-clause-err c =
-    inr (record_by-none c.args.self.now.rows.signature c.args.table.now c.args.columns
-    c.args.self.now.rows.traces (fields_of c.args.entry.now) (sym c.in_default.ensures.value))
+    inr (record_by-none _ _ _ _ _ (sym c.in_default.ensures.value))
 
 going : (c : goal.After-go_on)
     → record_by c.args.self.now.rows.signature c.args.table.now c.args.columns
@@ -43,10 +42,7 @@ returns-then-is_last-clause-names c =
     ≡ Ok c.go_on.new.self.rows.traces).
     subst (λ (names : SeenNames). knows names c.go_on.new.self.rows.traces)
     (sym c.go_on.ensures.names)
-    (go_on_by-knows c.args.self.now.names c.args.self.now.rows.signature
-    c.args.self.now.rows.traces c.go_on.new.self.rows.traces
-    (row_by c.args.table.now (after_first (fields_of c.args.entry.now))) gone c.requires.names))
-    c.go_on.ensures.ok
+    (go_on_by-knows _ _ _ _ _ gone c.requires.names)) c.go_on.ensures.ok
 
 other : (c : goal.After-start)
     → record_by c.args.self.now.rows.signature c.args.table.now c.args.columns
@@ -54,8 +50,7 @@ other : (c : goal.After-start)
     ≡ start_by c.args.self.now.rows.signature c.in-Some.name.now c.args.self.now.rows.traces
     (row_by c.args.table.now (after_first (fields_of c.args.entry.now)))
 other c =
-    record_by-other c.args.self.now.rows.signature c.args.table.now c.args.columns
-    c.args.self.now.rows.traces (fields_of c.args.entry.now) c.in-Some.name.now
+    record_by-other _ _ _ _ _ _
     (sym c.in-Some.ensures.value) (sym c.width-cells.ensures ∙ c.if-cells-columns.false)
     (ap (λ (r : Recording). is_last c.in-Some.name.now r.traces) (sym c.set.ensures)
     ∙ sym c.if-is_last.ensures)

@@ -14,12 +14,11 @@ returns-in_err-push_bits_to-clause-err c =
     let cell = c.name_of-name.result in
     let traces = c.args.self.now.rows.traces in
     let text = c.args.text.now in
-    let next = is-next traces text cell.bytes.now cell.rest.now cell.is_last cell.is_same
+    let next = is-next _ _ _ _ _ _
     c.name_of-name.ensures.cells c.name_of-name.ensures.after c.if-name.false
     (subst (λ (r : Recording). cell.is_same ≡ is_last cell.bytes.now r.traces) c.set.ensures
     c.name_of-name.ensures.same) c.if-name-2.true in
-    let added = bits-added c.args.self.now.rows.signature c.args.table.now.columns.items
-    c.args.table.now.count c.in-Some.truths.bits traces text cell.bytes.now cell.rest.now
+    let added = bits-added _ _ _ _ _ _ _ _
     (c.requires.truths c.if-table.true) c.in-Some.ensures.0 next c.requires.lawful.each in
     let p = err_from_is_err_and c.from_residual.result c.from_residual.ensures.1 in
     rw (p.1, p.2)
@@ -31,12 +30,11 @@ returns-in-Some-clause-ok c =
     let cell = c.name_of-name.result in
     let traces = c.args.self.now.rows.traces in
     let text = c.args.text.now in
-    let next = is-next traces text cell.bytes.now cell.rest.now cell.is_last cell.is_same
+    let next = is-next _ _ _ _ _ _
     c.name_of-name.ensures.cells c.name_of-name.ensures.after c.if-name.false
     (subst (λ (r : Recording). cell.is_same ≡ is_last cell.bytes.now r.traces) c.set.ensures
     c.name_of-name.ensures.same) c.if-name-2.true in
-    let added = bits-added c.args.self.now.rows.signature c.args.table.now.columns.items
-    c.args.table.now.count c.in-Some.truths.bits traces text cell.bytes.now cell.rest.now
+    let added = bits-added _ _ _ _ _ _ _ _
     (c.requires.truths c.if-table.true) c.in-Some.ensures.0 next c.requires.lawful.each in
     added ∙ c.in_ok-push_bits_to.ensures.ok
 
@@ -50,8 +48,7 @@ returns-in-Some-clause-names c =
 pub add_cells-requires-clause-first : goal.add_cells-requires-clause-first
 add_cells-requires-clause-first c =
     let cell = c.name_of-name.result in
-    has-name c.args.text.now cell.bytes.now cell.rest.now cell.is_last
-    c.name_of-name.ensures.cells c.name_of-name.ensures.after c.if-name.false
+    has-name _ _ _ _ c.name_of-name.ensures.cells c.name_of-name.ensures.after c.if-name.false
 
 pub add_cells-requires-clause-same : goal.add_cells-requires-clause-same
 add_cells-requires-clause-same c =

@@ -10,8 +10,7 @@ use Rattle.lb_trace.proofs.recorder.Recorder.join_first.Goals as goal
 
 pub add_read-requires-clause-row : goal.add_read-requires-clause-row
 add_read-requires-clause-row c =
-    row-lawful c.args.set.now c.args.self.now.rows.signature c.args.k 0
-    c.copy_row.new.row.items c.requires.lawful c.requires.same c.requires.trace
+    row-lawful _ _ _ _ _ c.requires.lawful c.requires.same c.requires.trace
     (omega (arith, c.length.ensures.instants, c.length.ensures.started))
     (c.in-Ok.ensures.ok
     ∙ ap (λ (r : Row). r ++ get_or (trace_at c.args.set.now.traces c.args.k).1 0 [])

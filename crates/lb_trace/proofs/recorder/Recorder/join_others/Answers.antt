@@ -51,8 +51,7 @@ returns-clause-instants c =
 
 pub returns-clause-names : goal.returns-clause-names
 returns-clause-names c =
-    knows-rows c.args.self.now.names c.args.self.now.rows c.extend.new.self
-    (rows_from c.args.set.now.traces c.args.k 1) c.in-Ok.ensures.ok c.requires.names
+    knows-rows _ _ _ _ c.in-Ok.ensures.ok c.requires.names
 
 pub returns-clause-signature : goal.returns-clause-signature
 returns-clause-signature c = ap (λ (r : Recording). r.signature) c.in-Ok.ensures.ok

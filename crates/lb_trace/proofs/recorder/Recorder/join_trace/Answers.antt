@@ -14,7 +14,7 @@ returns-clause-instants c =
     let after = instants c.join_others.new.self.rows.traces in
     on_ok_weaker c.join_others.result
     (λ (others : after ≡ first ++ map (λ (row : Row). (trace.0, row)) (drop 1 trace.1)).
-    trace-whole trace.0 (instants c.args.self.now.rows.traces) first after trace.1
+    trace-whole _ _ _ _ _
     (trace-started c.args.set.now c.args.k c.signature.ensures.lawful c.requires.trace)
     c.in_ok-join_first.ensures.instants others)
     c.join_others.ensures.instants

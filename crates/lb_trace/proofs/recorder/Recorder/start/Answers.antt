@@ -47,8 +47,7 @@ new_start c =
     ≡ false =
     ap (λ (r : Recording). list_any (λ (t : Trace). bytes_eq c.args.name.now t.0) r.traces)
     (sym c.set.ensures) ∙ found.2 in
-    start_by-new c.args.self.now.rows.signature c.args.name.now c.args.self.now.rows.traces
-    (row_by c.args.table.now (after_first (fields_of c.args.entry.now))) found.1 none
+    start_by-new _ _ _ _ found.1 none
     ∙ ap (λ n. start_cells c.args.self.now.rows.signature n c.args.self.now.rows.traces
     (row_by c.args.table.now (after_first (fields_of c.args.entry.now)))) (sym found.0)
 
@@ -77,7 +76,4 @@ returns-clause-names c =
     (λ (started : start_cells c.args.self.now.rows.signature c.in-Some.text.now
     c.args.self.now.rows.traces (row_by c.args.table.now (after_first (fields_of c.args.entry.now)))
     ≡ Ok c.begin.new.self.rows.traces).
-    start_cells-knows c.begin.new.self.names c.args.self.now.rows.signature
-    c.in-Some.text.now c.args.self.now.rows.traces c.begin.new.self.rows.traces
-    (row_by c.args.table.now (after_first (fields_of c.args.entry.now))) started (known c))
-    c.begin.ensures.ok
+    start_cells-knows _ _ _ _ _ _ started (known c)) c.begin.ensures.ok

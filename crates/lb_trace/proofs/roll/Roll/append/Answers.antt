@@ -31,7 +31,7 @@ loop-k-preserved c =
     c.length.ensures.instants c.in_ok-append_trace.ensures.ok) in
     record {
       roll = c.in_ok-append_trace.ensures.roll;
-      taken = taken_more c.args.self c.loop-k.roll c.append_trace.new.self c.args.set.now c.loop-k.k
+      taken = taken_more _ _ _ _ _
           c.signature.ensures.lawful
           (omega (arith, c.loop-k-test.true, c.len-k-end.ensures.count))
           c.loop-k.invariant.taken takes;
@@ -47,7 +47,7 @@ returns-in_err-append_trace-clause-err c =
     (subst (λ (n : ℕ). RefusesTrace c.loop-k.roll c.name.result.now n e)
     c.length.ensures.instants c.in_err-append_trace.ensures.err) in
     let p = err_from_is_err_and c.from_residual.result c.from_residual.ensures.1 in
-    rw (p.1, p.2) (refuses_rows c.args.self c.loop-k.roll c.args.set.now c.loop-k.k e
+    rw (p.1, p.2) (refuses_rows _ _ _ _ _
     c.signature.ensures.lawful (omega (arith, c.loop-k-test.true, c.len-k-end.ensures.count))
     c.loop-k.invariant.taken refused)
 

@@ -42,8 +42,7 @@ loop-k-preserved c =
     c.in_ok-append_trace.ensures.ok) in
     record {
       roll = c.in_ok-append_trace.ensures.roll;
-      taken = taken_one_more c.args.self c.args.other.now c.loop-k.roll c.append_trace.new.self
-          c.loop-k.k below c.loop-k.invariant.taken takes;
+      taken = taken_one_more _ _ _ _ _ below c.loop-k.invariant.taken takes;
     }
 
 pub returns-in_err-append_trace-clause-err : goal.returns-in_err-append_trace-clause-err
@@ -74,13 +73,11 @@ returns-in_err-append_trace-clause-err c =
     (subst (λ (n : ℕ). RefusesTrace c.loop-k.roll c.name.result.now n e) count
     c.in_err-append_trace.ensures.err) in
     let p = err_from_is_err_and c.from_residual.result c.from_residual.ensures.1 in
-    rw (p.1, p.2) (refuses_roll c.args.self c.args.other.now c.loop-k.roll c.loop-k.k e below
-    c.loop-k.invariant.taken refused)
+    rw (p.1, p.2) (refuses_roll _ _ _ _ _ below c.loop-k.invariant.taken refused)
 
 pub returns-clause-ok : goal.returns-clause-ok
 returns-clause-ok c = λ elements traces others of more.
-    taken_all c.args.self c.args.other.now c.loop-k.roll c.loop-k.k
-    (omega (
+    taken_all _ _ _ _ (omega (
       arith,
       c.loop-k-test.false,
       c.loop-k.auto.k-end,

@@ -24,7 +24,7 @@ free false h = refl
 
 pub returns-then-not-is_new-clause-err : goal.returns-then-not-is_new-clause-err
 returns-then-not-is_new-clause-err c =
-    refuses_there c.args.self.now c.args.name.now c.args.length c.refusal_of_name.result
+    refuses_there _ _ _ _
     (there (list_any (λ (t : Trace). bytes_eq c.args.name.now t.0) c.args.self.now.names.traces)
     (sym c.if-not-is_new.true ∙ c.in-Ok.ensures.new
     ∙ ap (λ (r : Recording). not (list_any (λ (t : Trace). bytes_eq c.args.name.now t.0) r.traces))
@@ -54,30 +54,31 @@ returns-then-len-ge-MOST_TRACES-clause-err c =
     let full : nat_lt (length c.args.self.now.names.traces) 1000000 ≡ false = grind (arith, nat_tests)
     in
     refuses_count c.args.self.now c.args.name.now c.args.length
-    (fault.Limit (Some (c.args.self.now.instants + 1))) refl (none c.args.name.now c.set-names.result.now c.args.self.now.names c.in-Ok.is_new
+    (fault.Limit (Some (c.args.self.now.instants + 1))) refl (none c.args.name.now
+    c.set-names.result.now c.args.self.now.names c.in-Ok.is_new
     c.set-names.ensures c.in-Ok.ensures.new c.if-not-is_new.false) full
 
 pub returns-then-all-self-gt-MOST_CELLS-clause-err :
     goal.returns-then-all-self-gt-MOST_CELLS-clause-err
 returns-then-all-self-gt-MOST_CELLS-clause-err c =
     refuses_cells c.args.self.now c.args.name.now c.args.length
-    (fault.Limit (Some c.first_past_cells.result)) refl (none c.args.name.now c.set-names.result.now c.args.self.now.names c.in-Ok.is_new
+    (fault.Limit (Some c.first_past_cells.result)) refl (none c.args.name.now
+    c.set-names.result.now c.args.self.now.names c.in-Ok.is_new
     c.set-names.ensures c.in-Ok.ensures.new c.if-not-is_new.false)
     (subst (λ (n : ℕ). 67108864 < (c.args.self.now.instants + n) * c.args.self.now.cells)
     c.from-count.ensures c.if-all-self-gt-MOST_CELLS.true)
 
 pub start-requires-clause-fresh : goal.start-requires-clause-fresh
 start-requires-clause-fresh c =
-    none_contains c.args.name.now c.args.self.now.names.traces (none c.args.name.now c.set-names.result.now c.args.self.now.names c.in-Ok.is_new
+    none_contains c.args.name.now c.args.self.now.names.traces (none c.args.name.now
+    c.set-names.result.now c.args.self.now.names c.in-Ok.is_new
     c.set-names.ensures c.in-Ok.ensures.new c.if-not-is_new.false)
 
 pub returns-clause-roll : goal.returns-clause-roll
 returns-clause-roll c =
     let put : c.push.new.self.items ≡ c.args.self.now.lengths.items ++ c.args.length ∷ [] =
     first_of (search rules, grind (arith, common_steps)) in
-    grown_roll c.args.self.now _ c.args.name.now c.args.length c.requires.roll
-    (grows_by c.args.self.now _ c.args.name.now c.args.name.now c.args.length refl
-    c.in-Ok-start.ensures.ok
+    grown_roll _ _ _ _ c.requires.roll (grows_by _ _ _ _ _ refl c.in-Ok-start.ensures.ok
     (subst (λ (r : Recording). knows c.takes.new.self (with_trace r.traces c.args.name.now []))
     c.set-names.ensures (c.in-Ok.ensures.known c.if-not-is_new.false []))
     put (ap (λ (n : ℕ). c.args.self.now.instants + n) c.from-count.ensures) refl
@@ -88,7 +89,8 @@ pub returns-clause-ok : goal.returns-clause-ok
 returns-clause-ok c = λ elements traces t of is.
     let put : c.push.new.self.items ≡ c.args.self.now.lengths.items ++ c.args.length ∷ [] =
     first_of (search rules, grind (arith, common_steps)) in
-    grown_roll_of c.args.self.now _ elements traces t c.args.name.now c.args.length of is (none c.args.name.now c.set-names.result.now c.args.self.now.names c.in-Ok.is_new
+    grown_roll_of c.args.self.now _ elements traces t c.args.name.now c.args.length of is (none
+    c.args.name.now c.set-names.result.now c.args.self.now.names c.in-Ok.is_new
     c.set-names.ensures c.in-Ok.ensures.new c.if-not-is_new.false)
     (omega (
       arith,
@@ -96,8 +98,7 @@ returns-clause-ok c = λ elements traces t of is.
       c.len.ensures.count,
       ap (λ (r : Recording). length r.traces) c.set-names.ensures,
     ))
-    (grows_by c.args.self.now _ c.args.name.now c.args.name.now c.args.length refl
-    c.in-Ok-start.ensures.ok
+    (grows_by _ _ _ _ _ refl c.in-Ok-start.ensures.ok
     (subst (λ (r : Recording). knows c.takes.new.self (with_trace r.traces c.args.name.now []))
     c.set-names.ensures (c.in-Ok.ensures.known c.if-not-is_new.false []))
     put (ap (λ (n : ℕ). c.args.self.now.instants + n) c.from-count.ensures) refl

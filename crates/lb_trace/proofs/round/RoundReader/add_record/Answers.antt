@@ -12,8 +12,7 @@ use Rattle.lb_trace.proofs.round.RoundReader.add_record.Goals as goal
 
 pub add-requires-clause-kinds : goal.add-requires-clause-kinds
 add-requires-clause-kinds c =
-    rows_follow c.args.self.now.recorder.rows.signature (columns_in c.args.table.now)
-    c.deref.result.now (c.deref.ensures.value ∙ c.requires.table.columns)
+    rows_follow _ _ _ (c.deref.ensures.value ∙ c.requires.table.columns)
 
 pub returns-clause-ok : goal.returns-clause-ok
 returns-clause-ok c =
@@ -21,8 +20,7 @@ returns-clause-ok c =
     let r = fields_of c.args.entry.now in
     let same : record_by set.signature c.deref.result.now c.args.table.now.count set.traces r
     ≡ with_record set.signature (columns_in c.args.table.now) set.traces r =
-    record_by-table set.signature (columns_in c.args.table.now) c.deref.result.now
-    c.args.table.now.count set.traces r (c.deref.ensures.value ∙ c.requires.table.columns)
+    record_by-table _ _ _ _ _ _ (c.deref.ensures.value ∙ c.requires.table.columns)
     c.requires.table.count in
     on_ok_weaker c.add.result
     (λ (good : record_by set.signature c.deref.result.now c.args.table.now.count set.traces r
@@ -35,8 +33,7 @@ returns-clause-err c =
     let r = fields_of c.args.entry.now in
     let same : record_by set.signature c.deref.result.now c.args.table.now.count set.traces r
     ≡ with_record set.signature (columns_in c.args.table.now) set.traces r =
-    record_by-table set.signature (columns_in c.args.table.now) c.deref.result.now
-    c.args.table.now.count set.traces r (c.deref.ensures.value ∙ c.requires.table.columns)
+    record_by-table _ _ _ _ _ _ (c.deref.ensures.value ∙ c.requires.table.columns)
     c.requires.table.count in
     IfErr-weaker c.add.result _
     (λ e. IsRefusal (with_record set.signature (columns_in c.args.table.now) set.traces r) e)

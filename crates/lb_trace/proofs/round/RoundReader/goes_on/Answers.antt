@@ -10,8 +10,7 @@ pub returns-in-Some : goal.returns-in-Some
 returns-in-Some c =
     c.is_last.ensures
     ∙ ap (λ (r : Recording). is_last c.in-Some.name.now r.traces) c.set.ensures
-    ∙ sym (goes_on-some (fields_of c.args.entry.now) c.in-Some.name.now
-    c.args.self.now.recorder.rows.traces (sym c.in-Some.ensures.value))
+    ∙ sym (goes_on-some _ _ _ (sym c.in-Some.ensures.value))
 
 pub returns-in-None : goal.returns-in-None
 returns-in-None c =

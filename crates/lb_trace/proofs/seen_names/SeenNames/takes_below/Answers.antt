@@ -18,6 +18,5 @@ returns-clause-known c = λ new row.
     gathered-knows
     record { rising = c.gather.new.self.rising; table = c.put.new.self }
     (with_trace c.args.traces.now.traces c.args.name.now row) c.in_ok-gather.ensures.risen
-    (table-more c.gather.new.self.table c.put.new.self c.args.traces.now.traces
-    c.args.name.now row c.len.result c.len.ensures.count c.in_ok-gather.ensures.table
+    (table-more _ _ _ _ _ _ c.len.ensures.count c.in_ok-gather.ensures.table
     c.in_ok-put.ensures.room c.in_ok-put.ensures.put)
