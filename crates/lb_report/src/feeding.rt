@@ -1,6 +1,6 @@
 //! The bench on traces that come from a feed.
 
-ghost use Rattle.std.specs.Prelude.{◌≡◌, ◌<◌, ◌≤◌, ◌*◌, IfErr, IfOk, IfSome, OnOk, length};
+ghost use Rattle.std.specs.Prelude.{◌≡◌, ◌<◌, ◌≤◌, ◌+◌, ◌*◌, ◌/◌, IfErr, IfOk, IfSome, OnOk, length};
 ghost use Rattle.lb_traces.specs.Traces.{trace_names};
 ghost use Rattle.lb_output.specs.Reports.{IsReport};
 ghost use Rattle.lb_feed.specs.Windows.{IsWindow, left};
@@ -41,7 +41,7 @@ pub struct Sizes {
 
 impl Sizes {
     /// The sizes for a run: rounds fill many lanes, and yet a run takes only 24 MB and 2 MB for
-    /// each of up to four workers.
+    /// each worker. Where more than four judge sections of a file, their rounds are smaller yet.
     pub fn usual(workers: u32) -> Sizes
         ensures window { result.window ≤ 1048576 }
         ensures filled { 4980736 ≤ result.round }
@@ -163,11 +163,25 @@ fn rounds_of<'a, 'p>(
 }
 
 /// The number of workers that judge: that of the options, or for 0 the number of processors.
-fn workers_of<R: Threads>(rt: &R, options: &Options) -> usize {
+fn workers_of<R: Threads>(rt: &R, options: &Options) -> usize
+    ensures { 0 < result }
+{
     match options.workers {
         0 => current_num_threads(rt),
         count => count as usize,
     }
+}
+
+/// The sizes where `workers` workers judge sections of a file, each with rounds of its own. These
+/// take no more than 17 MiB together and 1 MiB for each worker.
+fn in_sections(sizes: Sizes, workers: usize) -> Sizes
+    requires { 0 < workers }
+    ensures small { result.round ≤ sizes.round }
+    ensures share { result.round ≤ 17825792 / workers + 1048576 }
+{
+    let mut sections = sizes;
+    sections.round = sizes.round.min((17 << 20) / workers + (1 << 20));
+    sections
 }
 
 /// Judges the traces of a feed by a program.
@@ -224,7 +238,15 @@ where
     let Ok(lanes) = compile(alloc, &program.ordered) else {
         return None;
     };
-    let rounds = rounds_of(alloc, program, &lanes, options, sizes, 1);
+    let count = workers_of(rt, options);
+    let rounds = rounds_of(
+        alloc,
+        program,
+        &lanes,
+        options,
+        in_sections(sizes, count),
+        1,
+    );
     let bytes = bytes_from(alloc, file, 0, size.min(HEAD as u64) as usize)?;
     let Ok(mut window) = Window::new(alloc, HEAD) else {
         return None;
@@ -237,8 +259,7 @@ where
         return None;
     }
     let from = (window.read() - window.text().len()) as u64;
-    let count = workers_of(rt, options) as u64;
-    let Ok(ends) = ends_in_file(alloc, file, from, size, count) else {
+    let Ok(ends) = ends_in_file(alloc, file, from, size, count as u64) else {
         return None;
     };
     Some(judge_ranges(rt, &rounds, &table, file, from, size, ends.as_slice()))
