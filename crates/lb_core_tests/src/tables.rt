@@ -31,6 +31,8 @@ enum Asks<'a> {
     Orders,
     /// The kinds of columns, and records: the bits of their Booleans.
     Bits,
+    /// The kinds of columns, and records: their traces.
+    Kinds,
     /// A trace text under the signature `x: int, c: bool`, by any number of workers.
     Parted,
     /// A case with counted records, in lanes.
@@ -70,6 +72,7 @@ fn push_answer<R: AllocGlobal + Threads + Sync>(
         Asks::Readings => readings::push_answer(alloc, asked, said),
         Asks::Orders => readings::push_three(alloc, asked, said),
         Asks::Bits => readings::push_bits(alloc, asked, said),
+        Asks::Kinds => readings::push_kinds(alloc, asked, said),
         Asks::Parted => readings::push_by_workers(rt, alloc, asked, said),
         Asks::Batches => batches::push_lanes_of(alloc, asked, said),
         Asks::Ints => lanes::push_ints(asked, said),
@@ -132,11 +135,12 @@ static LANE_TABLES: [Table<Asks<'static>>; 9] = [
 ];
 
 /// Trace texts.
-static TRACE_TABLES: [Table<Asks<'static>>; 5] = [
+static TRACE_TABLES: [Table<Asks<'static>>; 6] = [
     (Asks::Readings, LINES, readings::READINGS),
     (Asks::Orders, LINES, readings::ORDERS),
     (Asks::Bits, LINES, readings::BITS),
     (Asks::Bits, LINES, readings::TRUTHS),
+    (Asks::Kinds, LINES, readings::GROUPS),
     (Asks::Parted, LINES, readings::PARTS),
 ];
 
