@@ -11,10 +11,6 @@ use Rattle.lb_command.specs.Warnings.{IsWarned}
 pub then_takes : (a b c : Taken) (x y : List ℕ) → Takes a b x → Takes b c y → Takes a c (x ++ y)
 then_takes a b c x y p q = takes_more a b c x y (x ++ y) p q refl
 
-pub on_any_ok : {T E : Type 0} (r : Result T E) (P : Type 0) → P → OnOk r P
-on_any_ok (Ok x) P p = p
-on_any_ok (Err e) P p = tt
-
 -- a text was written whole where the result is `Ok`, and else the sink failed
 pub took_or_failed : {T E : Type 0} (r : Result T E) (c : Change) (text : List ℕ)
     → OnOk r (Takes c.before c.after text) → OnOk r (c.failures_after ≡ c.failures_before)

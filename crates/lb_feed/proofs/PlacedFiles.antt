@@ -1,9 +1,8 @@
 -- The bytes of a file between places.
-use Rattle.std.proofs.Common.{ℕ, ◌≡◌, ◌∙◌, ◌+◌, ◌-◌, ◌≤◌, ◌<◌, List, [], ◌++◌, Option, None}
-use Rattle.std.proofs.Common.{Some, IfSome, ap, append-nil, arith, drop, length, min}
-use Rattle.std.proofs.Common.{inl, inr, refl, subst, sym, take}
-use Rattle.std.proofs.Math.Seq.{drop-drop, take-add, take-append-add, take_all}
-use Rattle.std.proofs.lemmas.Bool.{cases_lt}
+use Rattle.std.proofs.Common.{ℕ, ◌≡◌, ◌∙◌, ◌+◌, ◌-◌, ◌≤◌, List, [], ◌++◌, Option, None}
+use Rattle.std.proofs.Common.{Some, IfSome, ap, append-nil, arith, drop, length}
+use Rattle.std.proofs.Common.{refl, subst, sym, take}
+use Rattle.std.proofs.Math.Seq.{drop-drop, take-add, take-append-add}
 use Rattle.std.proofs.lemmas.List.{length-take, take_at}
 use Rattle.std.specs.Io.KnownBytes.{Consumes, IsAtEnd}
 use Rattle.lb_feed.specs.PlacedFiles.{between, told_between, told_from}
@@ -57,28 +56,6 @@ read_whole (Some all) start past n given long came =
     sym (ap (take (past - start)) came ∙ take_at given (drop (start + n) all) (past - start) long)
 
 -- ## A feed of a range
-
-pub past_between : (bytes : Option (List ℕ)) (at past : ℕ) → past ≤ at
-    → IsAtEnd (told_between at past bytes)
-past_between None at past over = tt
-past_between (Some all) at past over =
-    let none : past - at ≡ 0 = omega (arith, over) in ap (λ n. take n (drop at all)) none
-
-end_between : (bytes : Option (List ℕ)) (at past : ℕ) → IsAtEnd (told_from at bytes)
-    → IsAtEnd (told_between at past bytes)
-end_between None at past none = tt
-end_between (Some all) at past none =
-    ap (take (past - at)) none ∙ take_all (past - at) [] (omega arith)
-
--- a range is at its end where a read gives nothing, though there was room for some bytes
-pub nothing_between : (bytes : Option (List ℕ)) (at past room : ℕ)
-    → (0 < min (past - at) room → IsAtEnd (told_from at bytes)) → 0 < room
-    → IsAtEnd (told_between at past bytes)
-nothing_between bytes at past room none some =
-    elim (cases_lt at past) [
-      | inl below ↦ end_between bytes at past (none (omega (arith, below, some)))
-      | inr over ↦ past_between bytes at past over
-    ]
 
 -- a read of `n` bytes from a file, within a range, is a read from the range
 pub read_between : (bytes : Option (List ℕ)) (at past n : ℕ) (given : List ℕ) → length given ≡ n

@@ -1,12 +1,12 @@
 -- Sections of a text, one after the other.
-use Rattle.std.proofs.Common.{ℕ, ◌≡◌, ◌∙◌, ◌<◌, ◌≤◌, ◌-◌, ◌*◌, ◌/◌, ◌⊎◌, List, [], ◌∷◌, ◌++◌}
+use Rattle.std.proofs.Common.{ℕ, ◌≡◌, ◌∙◌, ◌<◌, ◌≤◌, ◌*◌, ◌/◌, ◌⊎◌, List, [], ◌∷◌, ◌++◌}
 use Rattle.std.proofs.Common.{zero, suc, refl, sym, ap, subst, arith, get_or, length}
 use Rattle.std.proofs.Common.{length-append, inl, inr}
 use Rattle.std.proofs.Common.{div-mul-le_self}
 use Rattle.std.proofs.Math.ListN.{get_or-append}
 use Rattle.std.proofs.Math.Nat.{eq-or-lt_of_le, mul-le-mul_left}
 use Rattle.std.proofs.Math.Seq.{get_or-append_seam}
-use Rattle.lb_feed.specs.SectionEnds.{AreEnds, start_of}
+use Rattle.lb_feed.specs.SectionEnds.{start_of}
 
 -- sections follow one another from `from` to `to`
 pub record FollowOn (from to : ℕ) (ends : List ℕ) : Type 0 where
@@ -28,13 +28,6 @@ last_start from ends end = get_or-append_seam ends end [] 0
 
 one_longer : (ends : List ℕ) (end : ℕ) → length (ends ++ end ∷ []) ≡ suc (length ends)
 one_longer ends end = omega (arith, length-append ends (end ∷ []))
-
--- a section behind the first begins at the end of the one before it
-pub start_behind : (from : ℕ) (ends : List ℕ) (i : ℕ) → 0 < i
-    → start_of from ends i ≡ get_or ends (i - 1) 0
-start_behind from ends zero some = absurd (omega arith)
-start_behind from ends (suc i) some =
-    let same : i ≡ suc i - 1 = omega arith in ap (λ k. get_or ends k 0) same
 
 -- sections up to `to`, and one more up to `end`, are sections up to `end`
 pub one_more : (from to end : ℕ) (ends : List ℕ) → FollowOn from to ends → to ≤ end
@@ -58,21 +51,6 @@ one_more from to end ends before within =
           let which : (i ≡ length ends) ⊎ (i < length ends) =
           eq-or-lt_of_le {n = i} {m = length ends} (omega (arith, longer, there)) in
           elim which [ inl at ↦ new at | inr lt ↦ old lt ];
-    }
-
--- sections up to `to`, and a last one up to `size`, are all sections up to `size`
-pub are_ends : (from to size : ℕ) (ends : List ℕ) → FollowOn from to ends → to ≤ size
-    → AreEnds from size (ends ++ size ∷ [])
-are_ends from to size ends before within =
-    let all = one_more from to size ends before within in
-    let longer = one_longer ends size in
-    let place : length (ends ++ size ∷ []) - 1 ≡ length ends = omega (arith, longer) in
-    record {
-      some = omega (arith, longer);
-      last =
-          ap (λ i. get_or (ends ++ size ∷ []) i 0) place
-          ∙ get_or-append_seam ends size [] 0;
-      ordered = all.ordered;
     }
 
 -- `k` of `count` equal parts of a size are within the size

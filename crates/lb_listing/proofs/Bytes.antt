@@ -1,11 +1,11 @@
 -- The bytes of a line, and the cut of a text at a byte.
-use Rattle.std.proofs.Common.{◌≡◌, ◌≢◌, ℕ, ◌+◌, ◌^◌, ◌<◌, ◌≤◌, List, [], ◌∷◌, ◌++◌, length, get_or}
-use Rattle.std.proofs.Common.{Bool, true, false, IsTrue, refl, sym, ap, ◌∙◌, subst, arith, codes}
+use Rattle.std.proofs.Common.{◌≡◌, ◌≢◌, ℕ, ◌^◌, ◌<◌, ◌≤◌, List, [], ◌∷◌, ◌++◌, get_or}
+use Rattle.std.proofs.Common.{Bool, true, IsTrue, refl, arith}
 use Rattle.std.proofs.Common.{Some, None, Option, decimal, nat_lt, nat_le}
 use Rattle.std.specs.Prelude.{◌&&◌}
 use Rattle.std.specs.Int.{IsInRange}
 use Rattle.std.specs.List.{All, list_all}
-use Rattle.std.specs.Str.{IsAscii, IsUtf8}
+use Rattle.std.specs.Str.{IsUtf8}
 use Rattle.std.specs.Str.Parse.{AllDigits}
 use Rattle.std.proofs.lemmas.Bool.Decides.{nat_tests}
 use Rattle.std.proofs.lemmas.Fmt.{decimal_is_IsNumeral}

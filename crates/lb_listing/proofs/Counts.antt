@@ -1,21 +1,14 @@
 -- The last line, count by count.
 use Rattle.std.proofs.Common.{◌≡◌, ℕ, ◌+◌, List, [], ◌∷◌, ◌++◌, flat_map, length, map}
-use Rattle.std.proofs.Common.{ap, sym, ◌∙◌, append-nil, append_assoc, refl, zero-add, add-one}
+use Rattle.std.proofs.Common.{ap, sym, ◌∙◌, append-nil, append_assoc, refl}
 use Rattle.std.proofs.lemmas.Grind.{flat_map-append}
-use Rattle.std.proofs.lemmas.List.{length-map, map-append, take_more}
+use Rattle.std.proofs.lemmas.List.{map-append, take_more}
 use Rattle.std.proofs.lemmas.List.Folds.{list_any-append}
 use Rattle.std.proofs.Common.{Bool, true, false, ◌<◌, get_or, take, zero, suc, arith}
 use Rattle.std.specs.Prelude.{◌||◌}
-use Rattle.std.specs.List.{list_any, range_with_len}
-use Rattle.lb_output.specs.Reports as report
-use Rattle.lb_listing.specs.Listings.{Line, line_of, lines_of, spelled, verdicts_of}
+use Rattle.std.specs.List.{list_any}
+use Rattle.lb_listing.specs.Listings.{Line, line_of, lines_of, spelled}
 use Rattle.lb_listing.specs.declared.entry.Entry.{Entry}
-
--- lines have as many verdicts as there are traces
-pub line_count : (entries : List Entry) → length (verdicts_of (map line_of entries)) ≡ length
-    entries
-line_count entries =
-    length-map (map line_of entries) (λ l. l.1) ∙ length-map entries line_of
 
 first_passes : (a b : Bool) → a ≡ true → (a || b) ≡ true
 first_passes true b e = refl

@@ -1,15 +1,13 @@
 -- The cut of a line at its first space, and of a text at its first line.
-use Rattle.std.proofs.Common.{◌≡◌, ◌≢◌, ℕ, ◌<◌, List, ◌∷◌, ◌++◌, Option, Some, None, length, get_or}
-use Rattle.std.proofs.Common.{sym, ◌∙◌, arith, subst, ap, false, true, refl, Bool}
+use Rattle.std.proofs.Common.{◌≡◌, ℕ, List, ◌∷◌, ◌++◌, Option, Some, None}
+use Rattle.std.proofs.Common.{sym, ◌∙◌, arith, subst, false, true, refl, Bool}
 use Rattle.std.proofs.Common.{Result, Ok, Err}
 use Rattle.std.specs.Prelude.{IfErr, IfNone, is_some, not}
 use Rattle.std.specs.Result.{IsErrAnd}
 use Rattle.std.specs.Option.{MatchOption}
 use Rattle.std.specs.Borrow.{Bor}
-use Rattle.std.specs.Str.{IsUtf8}
 use Rattle.std.proofs.lemmas.Option.{MatchOption-at_none, MatchOption-at_some}
 use Rattle.std.proofs.lemmas.Str.Pattern.{IsSplitOnceResult, split_after}
-use Rattle.lb_check.specs.declared.verdict.Verdict.{Verdict}
 use Rattle.lb_listing.specs.Listings.{HasNo, IsLine, Line, body, said, spelled}
 use Rattle.lb_listing.proofs.Bytes.{body_has_no_end, cut_once, name_has_no_space}
 use Rattle.lb_listing.proofs.Lines.{spelled_more}

@@ -1,15 +1,13 @@
 -- The text of a line determines its trace and its verdict.
-use Rattle.std.proofs.Common.{◌≡◌, ◌≢◌, ℕ, ◌+◌, ◌^◌, ◌<◌, ◌≤◌, List, [], ◌∷◌, ◌++◌, length, get_or}
-use Rattle.std.proofs.Common.{refl, sym, ap, ap₂, ◌∙◌, subst, arith, codes, append_assoc}
-use Rattle.std.proofs.Common.{append-nil}
-use Rattle.std.proofs.Common.{Some, None, Option, decimal, flat_map, IsTrue, nat_le}
+use Rattle.std.proofs.Common.{◌≡◌, ◌≢◌, ℕ, ◌^◌, ◌<◌, ◌≤◌, List, [], ◌∷◌, ◌++◌, length, get_or}
+use Rattle.std.proofs.Common.{refl, sym, ap, ap₂, ◌∙◌, arith, codes, append_assoc}
+use Rattle.std.proofs.Common.{decimal, flat_map, IsTrue, nat_le}
 use Rattle.std.proofs.lemmas.Bool.Decides.{nat_tests}
 use Rattle.std.proofs.lemmas.List.Elements.{All-weaker}
 use Rattle.std.proofs.lemmas.List.Sums.{AllPass-from_list_all}
 use Rattle.std.specs.Prelude.{◌==◌, false}
 use Rattle.std.specs.Int.{IsInRange}
 use Rattle.std.specs.List.{range_with_len}
-use Rattle.std.specs.Str.Parse.{AllDigits}
 use Rattle.std.proofs.lemmas.Fmt.{decimal_injective, decimal_is_IsNumeral}
 use Rattle.std.proofs.lemmas.List.{append_cancel_left, get_or_append_left}
 use Rattle.std.proofs.lemmas.Str.Parse.{digit_at}

@@ -1,18 +1,18 @@
 -- The report on the traces of several reports.
 use Rattle.std.proofs.Common.{◌≡◌, ◌≢◌, ℕ, ◌+◌, ◌<◌, ◌≤◌, ◌^◌, List, [], ◌∷◌, ◌++◌}
 use Rattle.std.proofs.Common.{length, map, take, get_or}
-use Rattle.std.proofs.Common.{sym, ◌∙◌, ap, subst, refl, append_assoc, flat_map, arith}
+use Rattle.std.proofs.Common.{sym, ◌∙◌, ap, subst, refl, append_assoc, arith}
 use Rattle.std.specs.List.{All, AllPairs, AllZip}
 use Rattle.std.proofs.lemmas.Grind.{flat_map-append}
 use Rattle.std.specs.Prelude.{Vec}
 use Rattle.std.specs.Global.{Global}
 use Rattle.std.proofs.lemmas.List.{append-nil, length-map, map-append, take_more}
 use Rattle.std.proofs.lemmas.List.Elements.{All-append}
-use Rattle.lb_listing.specs.Listings.{IsFault, IsLine, IsListing, Line, Lists, lines_of, names_of}
-use Rattle.lb_listing.specs.Listings.{line_of, report, spelled, total_of, verdicts_of}
+use Rattle.lb_listing.specs.Listings.{IsFault, IsLine, Line, Lists, lines_of, names_of}
+use Rattle.lb_listing.specs.Listings.{line_of, report, spelled, total_of}
 use Rattle.lb_listing.specs.declared.entry.Entry.{Entry}
 use Rattle.lb_listing.specs.Merged.{AreJoined, HaveTwice, IsMerged, IsWhole, joined, texts_of}
-use Rattle.lb_listing.proofs.Listed.{All-later, begins_with, length_verdicts, no_more_lines}
+use Rattle.lb_listing.proofs.Listed.{All-later, begins_with, no_more_lines}
 
 -- `AreJoined` for no report
 pub joined_none : AreJoined [] [] []

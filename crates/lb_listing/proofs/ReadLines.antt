@@ -1,16 +1,13 @@
 -- The part of a report that is read so far.
 use Rattle.std.proofs.Common.{◌≡◌, ◌≢◌, ℕ, ◌+◌, ◌<◌, ◌^◌, List, [], ◌∷◌, ◌++◌, length, map, None}
-use Rattle.std.proofs.Common.{Some}
-use Rattle.std.proofs.Common.{sym, ◌∙◌, ap, subst, false, true, Option}
+use Rattle.std.proofs.Common.{sym, ◌∙◌, ap, subst}
 use Rattle.std.specs.Prelude.{IsSome}
-use Rattle.std.specs.Option.{is_some}
 use Rattle.std.specs.List.{All, AllPairs}
 use Rattle.std.proofs.Common.{arith, ◌≤◌}
 use Rattle.std.proofs.lemmas.List.{append-nil, length-map, map-append}
 use Rattle.std.proofs.lemmas.List.Elements.{All-push}
-use Rattle.lb_check.specs.declared.verdict.Verdict.{Verdict}
 use Rattle.lb_listing.specs.Indexed.{IsIndexed, listed}
-use Rattle.lb_listing.specs.Listings.{IsFault, IsLine, IsListing, Line, Lists, line_of, lines_of}
+use Rattle.lb_listing.specs.Listings.{IsFault, IsLine, IsListing, Line, line_of, lines_of}
 use Rattle.lb_listing.specs.Listings.{names_of, spelled, total_of, verdict_in, verdicts_of}
 use Rattle.lb_listing.specs.declared.entry.Entry.{Entry}
 use Rattle.lb_listing.specs.declared.listing.Listing.{Listing}

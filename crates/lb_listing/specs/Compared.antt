@@ -1,6 +1,6 @@
 -- The differences between a report and an earlier one.
 -- Source: this project's rule.
-use Rattle.std.specs.Prelude.{ℕ, Bool, true, false, ◌&&◌, ◌||◌, ◌++◌, List, [], ◌∷◌, codes}
+use Rattle.std.specs.Prelude.{ℕ, Bool, false, ◌&&◌, ◌||◌, ◌++◌, List, [], codes}
 use Rattle.std.specs.Prelude.{Option, Some, None, is_some, not, count_by, flat_map, if◌then◌else◌}
 use Rattle.std.specs.List.{list_any}
 use Rattle.lb_check.specs.declared.verdict.Verdict.{Verdict}

@@ -9,18 +9,9 @@ use Rattle.lb_output.specs.Reports.{line, lines, report_of, total}
 use Rattle.lb_output.specs.Follows.{Goes, HasBegun, HasCause, IsFollowed, sent_of}
 use Rattle.lb_output.specs.declared.follow_error.FollowError.{FollowError}
 use Rattle.lb_output.specs.Taken.{Taken, Takes}
-use Rattle.lb_output.proofs.SinkBytes.{takes_more, takes_no_byte}
+use Rattle.lb_output.proofs.SinkBytes.{takes_more}
 
 -- ## The part of a text that went out
-
--- `Goes` for a sink that was not written to
-pub goes_nowhere : (a : Taken) (text : List ℕ) (n : ℕ) → Goes a a text text n n
-goes_nowhere a text n = record {
-  gone = [];
-  took = takes_no_byte a;
-  parts = refl;
-  count = omega arith;
-}
 
 -- `Goes` where the first n bytes of a text went out
 pub goes_front : (before after : Taken) (text : List ℕ) (from n : ℕ) → n ≤ length text

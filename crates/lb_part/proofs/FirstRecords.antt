@@ -178,16 +178,3 @@ head-found text more is_last n long last is =
     let all = length-append text more in
     let bare = ap length stripped ∙ length-append (strip_bom text) more in
     one ∙ omega (arith, all, bare, short)
-
--- the head of a text in which no record ends is the whole text
-pub head-none : (text more : List ℕ) → more ≡ [] → record_end false (strip_bom text) ≡ None
-    → head_of (text ++ more) ≡ length text
-head-none text more last is =
-    let whole : head_of (text ++ more) ≡ head_of text =
-    ap (λ (back : List ℕ). head_of (text ++ back)) last ∙ ap head_of (append-nil text) in
-    let one : head_of text
-    ≡ (length text - length (strip_bom text)) + length (strip_bom text) =
-    ap (λ end. (length text - length (strip_bom text)) + unwrap_or end (length (strip_bom text)))
-    is in
-    let short = mark-short text in
-    whole ∙ one ∙ omega (arith, short)

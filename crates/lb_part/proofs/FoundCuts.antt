@@ -222,28 +222,7 @@ cut-last is_first is_last bytes from ends some fits others = record {
       };
 }
 
--- a text can be cut at its begin, if it begins with the bytes
-pub cut-first : (is_first is_last : Bool) (bytes : List ℕ) → is_first ≡ true
-    → IsCutBy is_first is_last bytes 0 0
-cut-first is_first is_last bytes begins = record {
-  inside = omega arith;
-  cut = λ front back st.
-      let none : length front ≡ 0 = ap length (st.first begins) in
-      record {
-        behind = omega arith;
-        break = at_first (omega (arith, none));
-        nearest = λ other low high is. omega (arith, low, high);
-      };
-}
-
 -- ## A loop
-
-pub none-begun : (is_first : Bool) (bytes : List ℕ) → IsLastIn is_first bytes None 0
-none-begun is_first bytes before below b = omega (arith, below)
-
-pub none-gone : (is_first is_last : Bool) (bytes : List ℕ) (from : ℕ)
-    → AllGoOn is_first is_last bytes from 0
-none-gone is_first is_last bytes from place low high b = absurd (omega (arith, high))
 
 pub line-next : (is_first : Bool) (bytes : List ℕ) (i b : ℕ) → b ≡ get_or bytes i 0
     → (ends : Bool) → ends ≡ ends_line b → ends ≡ line_in is_first bytes (i + 1)

@@ -1,10 +1,9 @@
 -- A list whose last elements, the last one first, stand before the others.
-use Rattle.std.proofs.Common.{◌≡◌, ℕ, suc, ◌+◌, ◌-◌, ◌<◌, ◌≤◌, ◌⊎◌, inl, inr, ◌++◌, ◌∷◌, []}
-use Rattle.std.proofs.Common.{List, length, get_or, take, drop, reverse, sym, ap, ◌∙◌, subst, arith}
-use Rattle.std.proofs.Math.Seq.{drop-cons, drop-append_seam, take-append_seam}
+use Rattle.std.proofs.Common.{◌≡◌, ℕ, ◌+◌, ◌-◌, ◌<◌, ◌≤◌, ◌⊎◌, inl, inr, ◌++◌}
+use Rattle.std.proofs.Common.{List, length, take, drop, reverse, sym, ap, ◌∙◌, subst, arith}
+use Rattle.std.proofs.Math.Seq.{drop-append_seam, take-append_seam}
 use Rattle.std.specs.List.Sorted.{IsPermutation}
 use Rattle.std.proofs.lemmas.Bool.{cases_lt}
-use Rattle.std.proofs.lemmas.Grind.{reverse_onto}
 use Rattle.std.proofs.lemmas.List.{append-nil, drop_all, take_all, length-drop, length-reverse}
 use Rattle.std.proofs.lemmas.List.{reverse-reverse, take-append-drop}
 use Rattle.std.proofs.lemmas.List.Sorted.{IsPermutation-trans, IsPermutation-reverse}
@@ -13,22 +12,6 @@ use Rattle.std.proofs.lemmas.List.Sorted.{IsPermutation-append_comm, IsPermutati
 -- the last i elements, the last one first
 abbrev pub from_the_end : List ℕ → ℕ → List ℕ
 from_the_end xs i = reverse (drop (length xs - i) xs)
-
-pub none_from_the_end : (xs : List ℕ) → from_the_end xs 0 ≡ []
-none_from_the_end xs = ap reverse (drop_all (length xs - 0) xs (omega arith))
-
-pub one_more_from_the_end :
-    (xs : List ℕ) (i x : ℕ) → i < length xs → x ≡ get_or xs (length xs - 1 - i) 0 →
-    from_the_end xs i ++ x ∷ [] ≡ from_the_end xs (i + 1)
-one_more_from_the_end xs i x lt is =
-    let k = length xs - 1 - i in
-    let here : suc k ≡ length xs - i = omega (arith, lt) in
-    let there : k ≡ length xs - (i + 1) = omega (arith, lt) in
-    let cut : drop k xs ≡ x ∷ drop (length xs - i) xs =
-    drop-cons xs k 0 (omega (arith, lt)) ∙ ap (λ y. y ∷ drop (suc k) xs) (sym is)
-    ∙ ap (λ n. x ∷ drop n xs) here in
-    sym (ap (λ n. reverse (drop n xs)) (sym there) ∙ ap reverse cut
-    ∙ reverse_onto (drop (length xs - i) xs) x [])
 
 -- the elements from a place on, the last one first, and behind them the others
 abbrev pub last_first : List ℕ → ℕ → List ℕ

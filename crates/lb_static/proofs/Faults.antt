@@ -1,14 +1,12 @@
 -- Faults: a fault of a part is a fault of the whole, and a name that an error holds fails its test.
-use Rattle.std.proofs.Common.{◌≡◌, Bool, true, false, refl, ap, ◌∙◌}
+use Rattle.std.proofs.Common.{◌≡◌, Bool, true, false, ap, ◌∙◌}
 use Rattle.std.specs.Prelude.{not, ◌||◌, string_bytes}
 use Rattle.std.proofs.lemmas.Slice.Eq.{bytes_eq-Decides}
 use Rattle.lb_syntax.specs.Tree as tree
 use Rattle.std.proofs.lemmas.Bool.{and_from}
-use Rattle.lb_static.specs.CountedNames.{NameUse, counted, is_broken_by, use_of}
-use Rattle.lb_static.specs.NameFaults.{IsNameFault, TellsName, TellsRule, is_told}
-use Rattle.lb_static.specs.declared.causes.NameRule.{NameRule}
+use Rattle.lb_static.specs.CountedNames.{NameUse, counted}
+use Rattle.lb_static.specs.NameFaults.{IsNameFault, TellsName, is_told}
 use Rattle.lb_static.specs.declared.causes.NameRule.TheVariants as rule
-use Rattle.lb_static.specs.declared.causes.Sought.{Sought}
 use Rattle.lb_static.specs.declared.causes.Sought.TheVariants as sought
 use Rattle.lb_static.specs.declared.error.StaticError.{StaticError}
 use Rattle.lb_static.specs.declared.error.StaticError.TheVariants.{Memory, Name, Recursion, Root}
@@ -35,25 +33,6 @@ told_fault (Root y) purpose x all t f = absurd t
 told_fault (Value y) purpose x all t f = absurd t
 told_fault (Range y) purpose x all t f = absurd t
 told_fault (Instances y) purpose x all t f = absurd t
-
--- an error with a rule that a purpose can break is an error with a name of that purpose
-pub tells_use : (e : StaticError) (purpose : NameUse) (x : tree.Name) (broken : NameRule)
-    → TellsRule x broken e → is_broken_by purpose broken ≡ true → TellsName x purpose e
-tells_use Memory purpose x broken t b = tt
-tells_use (Name y) purpose x broken t b = (t.0, ap (is_broken_by purpose) t.1 ∙ b)
-tells_use (Recursion y) purpose x broken t b = absurd t
-tells_use (Root y) purpose x broken t b = absurd t
-tells_use (Value y) purpose x broken t b = absurd t
-tells_use (Range y) purpose x broken t b = absurd t
-tells_use (Instances y) purpose x broken t b = absurd t
-
--- an unknown name breaks the rule of the purpose for which it is sought
-pub sought_use : (s : Sought) → is_broken_by (use_of s) (rule.Unknown s) ≡ true
-sought_use sought.Node = refl
-sought_use sought.Variable = refl
-sought_use sought.Clock = refl
-sought_use sought.Value = refl
-sought_use sought.Constant = refl
 
 -- a name that counts and fails a test fails the counted test
 pub counted_fails : (counts test : tree.Name → Bool) (x : tree.Name) → counts x ≡ true

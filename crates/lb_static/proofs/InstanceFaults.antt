@@ -1,9 +1,7 @@
 -- The errors for an instance that is refused are lawful answers, where the rule is broken.
 use Rattle.std.proofs.Common.{◌≡◌, ℤ, false, List, Option, Some, None, Err}
-use Rattle.lb_syntax.specs.Refusals.{Refusal, E12}
 use Rattle.lb_syntax.specs.Tree.{Name}
-use Rattle.lb_static.specs.InstanceFaults.{IsLimitFault, IsRangeFault, IsValueFault}
-use Rattle.lb_static.specs.Instantiated.{IsRefusal}
+use Rattle.lb_static.specs.InstanceFaults.{IsRangeFault, IsValueFault}
 use Rattle.lb_static.specs.Specialized.{IsEvaluated, node_in_range, part_values}
 use Rattle.lb_static.specs.declared.error.StaticError.{StaticError}
 use Rattle.lb_static.specs.declared.error.StaticError.TheVariants as error
@@ -29,13 +27,3 @@ range_refused given n (error.Recursion x) values h found out = h
 range_refused given n (error.Root x) values h found out = h
 range_refused given n (error.Value x) values h found out = absurd h
 range_refused given n (error.Instances x) values h found out = h
-
-pub limit_refused : (o : Option Refusal) (e : StaticError) → IsLimitFault e → o ≡ Some E12
-    → IsRefusal o e
-limit_refused o error.Memory h past = tt
-limit_refused o (error.Instances x) h past = past
-limit_refused o (error.Name x) h past = h
-limit_refused o (error.Recursion x) h past = h
-limit_refused o (error.Root x) h past = h
-limit_refused o (error.Value x) h past = absurd h
-limit_refused o (error.Range x) h past = absurd h

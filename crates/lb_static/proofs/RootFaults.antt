@@ -17,11 +17,6 @@ pub there : {A E : Type 0} (o : Option A) (x : A) (e : E) → Ok x ≡ ok_or o e
 there None x e is = absurd cc
 there (Some y) x e is = cc
 
--- an optional value that `ok_or` returns is there, seen through `f`
-pub seen_there : {A B E : Type 0} (f : A → B) (o : Option A) (a : A) (e : E) (seen : Option B)
-    → option_map f o ≡ seen → Ok a ≡ ok_or o e → seen ≡ Some (f a)
-seen_there f o a e seen is found = sym is ∙ ap (option_map f) (there o a e found)
-
 -- an optional value that is there, seen through `f`
 pub seen_some : {A B : Type 0} (f : A → B) (o : Option A) (a : A) (seen : Option B)
     → option_map f o ≡ seen → o ≡ Some a → seen ≡ Some (f a)

@@ -77,15 +77,6 @@ pub parts_sent :
 parts_sent told a b first rest m n e sent cause =
     some_sent told a b b first rest m n e sent (takes_nothing b) cause
 
--- a part that went out whole has been sent
-pub whole_part :
-    (told : Bool) (a c : Taken) (old last cleared part sent : List ℕ) → cleared ≡ [] →
-    (told ≡ true → cleared ++ old ≡ part ++ last) → sent ≡ part → Takes a c sent →
-    HasSent told a c old last
-whole_part told a c old last cleared part sent none next same took =
-    part_sent told a a c old old last cleared part (none_sent told a old) none next
-    (subst (λ (xs : List ℕ). Takes a c xs) same took)
-
 -- a part whose first bytes went out has been sent up to some rest
 pub front_part :
     (told : Bool) (a c : Taken) (old last cleared part sent : List ℕ) (n : ℕ) →

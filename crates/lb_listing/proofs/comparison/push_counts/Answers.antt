@@ -1,4 +1,4 @@
-use Rattle.std.proofs.Common.{◌≡◌, ◌∙◌, ◌++◌, ℕ, List, ap, codes, map}
+use Rattle.std.proofs.Common.{◌≡◌, ◌∙◌, ◌++◌, List, ap, codes, map}
 use Rattle.std.specs.Prelude.{count_by}
 use Rattle.lb_listing.specs.Compared.{counted, is_changed, is_kept, is_missing}
 use Rattle.lb_listing.specs.Indexed.{listed}

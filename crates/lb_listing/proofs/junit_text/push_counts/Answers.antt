@@ -1,4 +1,4 @@
-use Rattle.std.proofs.Common.{◌≡◌, ◌++◌, ℕ, List, codes}
+use Rattle.std.proofs.Common.{◌++◌, codes}
 use Rattle.lb_listing.specs.Junit.{counted}
 use Rattle.lb_listing.proofs.Pieces.{grown}
 use Rattle.lb_listing.proofs.junit_text.push_counts.Goals as goal

@@ -1,4 +1,4 @@
-use Rattle.std.proofs.Common.{◌≡◌, ◌∙◌, ◌++◌, ℕ, List, ap, codes}
+use Rattle.std.proofs.Common.{◌≡◌, ◌++◌, codes}
 use Rattle.lb_listing.specs.Junit.{quoted}
 use Rattle.lb_listing.proofs.Pieces.{grown}
 use Rattle.lb_listing.proofs.junit_text.push_head.Goals as goal

@@ -1,4 +1,4 @@
-use Rattle.std.proofs.Common.{◌≡◌, ◌++◌, ℕ, List, codes}
+use Rattle.std.proofs.Common.{◌++◌, codes}
 use Rattle.lb_listing.specs.Junit.{quoted}
 use Rattle.lb_listing.specs.Listings.{said}
 use Rattle.lb_listing.proofs.Pieces.{grown}

@@ -1,6 +1,6 @@
 use Rattle.std.proofs.Common.{◌≡◌, sym, ◌∙◌, subst, List, ℕ, true, false}
 use Rattle.lb_traces.specs.Traces.{IsTraceName}
-use Rattle.lb_listing.specs.Listings.{IsLine, Line, body, said}
+use Rattle.lb_listing.specs.Listings.{IsLine, Line, body}
 use Rattle.lb_listing.proofs.Cuts.{none_if, parts_none, parts_some}
 use Rattle.lb_listing.proofs.line.read_entry.Goals as goal
 

@@ -1,5 +1,4 @@
-use Rattle.std.proofs.Common.{◌≡◌, ◌≤◌, ◌<◌, ℕ, sym, ◌∙◌, ap, true, false, arith, decimal, Ok}
-use Rattle.std.proofs.Common.{Result}
+use Rattle.std.proofs.Common.{◌≡◌, sym, ◌∙◌, ap, true, arith, Ok}
 use Rattle.lb_listing.specs.Plain.{is_canonical}
 use Rattle.lb_listing.proofs.Digits.{parsed, plain_decimal, read_back}
 use Rattle.lb_listing.proofs.line.read_instant.Goals as goal

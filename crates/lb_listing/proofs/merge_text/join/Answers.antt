@@ -1,10 +1,9 @@
-use Rattle.std.proofs.Common.{◌≡◌, ◌∙◌, ◌++◌, List, ℕ, [], ◌∷◌, ap, length, map, subst, sym, take}
-use Rattle.std.proofs.lemmas.List.{map-append, take_more}
+use Rattle.std.proofs.Common.{◌≡◌, ◌∙◌, ◌++◌, List, ℕ, [], ap, map, subst, sym}
 use Rattle.lb_listing.specs.Indexed.{listed}
 use Rattle.std.specs.Prelude.{Vec}
 use Rattle.std.specs.Global.{Global}
-use Rattle.lb_listing.specs.Listings.{Line, Lists, line_of, lines_of}
-use Rattle.lb_listing.specs.Merged.{AreJoined, texts_of}
+use Rattle.lb_listing.specs.Listings.{Lists, line_of, lines_of}
+use Rattle.lb_listing.specs.Merged.{AreJoined}
 use Rattle.lb_listing.specs.declared.entry.Entry.{Entry}
 use Rattle.lb_listing.proofs.Merging.{joined_next, joined_none}
 use Rattle.lb_listing.proofs.merge_text.join.Goals as goal

@@ -1,4 +1,4 @@
-use Rattle.std.proofs.Common.{◌≡◌, ℕ, List, Option, Vec, subst, sym}
+use Rattle.std.proofs.Common.{ℕ, List, Option, Vec, subst, sym}
 use Rattle.std.specs.Global.{Global}
 use Rattle.std.specs.Prelude.{IfNone, IfSome}
 use Rattle.lb_listing.specs.Listings.{IsFault, Line, Lists}

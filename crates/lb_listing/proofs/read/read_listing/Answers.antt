@@ -1,9 +1,8 @@
-use Rattle.std.proofs.Common.{◌≡◌, ◌≢◌, ◌++◌, ◌<◌, ◌+◌, ◌^◌, List, ℕ, sym, ◌∙◌, ap, subst, length}
-use Rattle.std.proofs.Common.{map}
-use Rattle.std.proofs.Common.{true, false, None, arith}
+use Rattle.std.proofs.Common.{◌≡◌, ◌≢◌, ◌++◌, ◌+◌, List, ℕ, ◌∙◌, ap, length}
+use Rattle.std.proofs.Common.{true, false, None}
 use Rattle.std.specs.Prelude.{IsSome}
-use Rattle.lb_listing.specs.Indexed.{IsIndexed, listed}
-use Rattle.lb_listing.specs.Listings.{IsLine, Line, line_of, lines_of, report, spelled, total_of}
+use Rattle.lb_listing.specs.Indexed.{listed}
+use Rattle.lb_listing.specs.Listings.{line_of, lines_of, report, total_of}
 use Rattle.lb_listing.specs.Listings.{IsRefused, verdict_in}
 use Rattle.lb_listing.specs.declared.read.ListingError.TheVariants.{Memory}
 use Rattle.lb_listing.proofs.Cuts.{fresh_none, fresh_some, passed_on}

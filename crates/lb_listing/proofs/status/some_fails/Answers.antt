@@ -1,5 +1,4 @@
 use Rattle.std.proofs.Common.{sym, ◌∙◌}
-use Rattle.std.specs.List.{list_any}
 use Rattle.lb_listing.specs.Listings.{Line}
 use Rattle.lb_listing.specs.Verdicts.{fails}
 use Rattle.lb_listing.proofs.Counts.{any_at, none_more}

@@ -1,4 +1,4 @@
-use Rattle.std.proofs.Common.{◌≡◌, ◌++◌, [], ◌∷◌, Some, None, Option, false, ap, sym, ◌∙◌, cond}
+use Rattle.std.proofs.Common.{◌≡◌, [], ◌∷◌, Some, None, Option, ap, sym, ◌∙◌, cond}
 use Rattle.std.proofs.Common.{List, map}
 use Rattle.std.specs.Str.{bytes_eq}
 use Rattle.std.proofs.lemmas.List.{map-append}
