@@ -18,10 +18,10 @@ impl Rounds<'_, '_> {
     ghost use Rattle.lb_trace.specs.Spelling.{Record};
     ghost use Rattle.lb_trace.specs.Tables.{IsColumnTable};
     ghost use Rattle.lb_feed.specs.Windows.{IsWindow, left};
-    ghost use Rattle.lb_report.specs.JudgedParts.{HaltsPart, HaltsRest, HasHaltedAt, HasRoll};
+    ghost use Rattle.lb_report.specs.JudgedParts.{HaltsRest, HasHaltedAt, HasRoll};
     ghost use Rattle.lb_report.specs.JudgedParts.{IsHalt, IsJudgedFrom, IsPartRead};
     ghost use Rattle.lb_report.specs.JudgedParts.{IsRestRefused, IsState, IsTextJudged};
-    ghost use Rattle.lb_report.specs.JudgedParts.{IsTextRefused, JudgesRest, KeepsPart};
+    ghost use Rattle.lb_report.specs.JudgedParts.{IsTextRefused, JudgesRest};
     ghost use Rattle.lb_report.specs.QuotedTexts.{IsWholeJudged, IsWholeRefused};
 
     /// Judges all traces of a feed.
@@ -252,14 +252,21 @@ impl Rounds<'_, '_> {
             if !next(reader, &mut entry)? {
                 return self.last_round(rt, state);
             }
-            state = self.read_record(rt, table, &entry, state)?;
+            if !state.round.goes_on(&entry) {
+                state = self.begin_trace(rt, table, &entry, state)?;
+                continue;
+            }
+            match state.round.add_record(self.alloc, table, &entry) {
+                Ok(()) => {}
+                Err(cause) => return Err(self.refused_record(table, &entry, state, cause)),
+            }
         }
         // No text has that many records.
         Err(Halt::from(AllocError))
     }
 
-    /// Adds a record to the round, or to a new one where `ready_for` begins one.
-    fn read_record<R: Threads + Sync>(
+    /// Adds a record that begins a trace to the round, or to a new one where that one is full.
+    fn begin_trace<R: Threads + Sync>(
         &self,
         rt: &R,
         table: &ColumnTable,
@@ -281,32 +288,11 @@ impl Rounds<'_, '_> {
             (rows ++ fields_of entry.now ∷ []) halt) }
         ensures kept { IfErr result HasRoll }
     {
-        let mut state = self.ready_for(rt, entry, state)?;
+        let mut state = self.with_room(rt, state)?;
         match state.round.add_record(self.alloc, table, entry) {
             Ok(()) => Ok(state),
             Err(cause) => Err(self.refused_record(table, entry, state, cause)),
         }
-    }
-
-    /// Begins a new round where the present one is full and `entry` begins another trace.
-    fn ready_for<R: Threads + Sync>(
-        &self,
-        rt: &R,
-        entry: &ByteRecord,
-        state: State,
-    ) -> Result<State, Halt>
-        requires { IsState self.now.signature.now state }
-        ensures state { IfOk result (IsState self.now.signature.now) }
-        ensures ok { IfOk result
-            (KeepsPart self.now.runner.program.now.program.now self.now.signature.now state) }
-        ensures err { IfErr result
-            (HaltsPart self.now.runner.program.now.program.now self.now.signature.now state) }
-        ensures kept { IfErr result HasRoll }
-    {
-        if state.round.goes_on(entry) {
-            return Ok(state);
-        }
-        self.with_room(rt, state)
     }
 
     /// The halt at a record that the round has refused with `cause`.

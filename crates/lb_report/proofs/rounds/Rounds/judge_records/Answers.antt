@@ -1,5 +1,5 @@
 -- One record after the other is read, until there is none or one is refused.
-use Rattle.std.proofs.Common.{ℕ, List, ◌++◌, refl}
+use Rattle.std.proofs.Common.{ℕ, List, ◌++◌, ◌∙◌, refl}
 use Rattle.std.proofs.lemmas.Result.{IfErr-weaker, IfOk-weaker, err_from_is_err_and}
 use Rattle.csv.specs.Records.{fields_of}
 use Rattle.lb_trace.specs.Readers.{Reaches}
@@ -7,6 +7,8 @@ use Rattle.lb_trace.specs.Spelling.{Record}
 use Rattle.lb_feed.proofs.Passing.{passes_on}
 use Rattle.lb_report.specs.JudgedParts.{HasHaltedAt, HasRoll, IsJudgedFrom, IsPartRead}
 use Rattle.lb_report.specs.declared.rounds.Halt.TheVariants.{Refused}
+use Rattle.lb_report.proofs.PartReads.{part_one}
+use Rattle.lb_report.proofs.QuotedTexts.{part_kept}
 use Rattle.lb_report.proofs.QuotedReads.{on_end, on_halt, on_more, on_none, on_refused}
 use Rattle.lb_report.proofs.rounds.Rounds.judge_records.Goals as goal
 
@@ -18,8 +20,8 @@ records-init g c = record {
       c.args.table.now text given rows c.args.reader.now c.args.begun reaches is;
 }
 
-pub records-preserved : goal.records-preserved
-records-preserved g c =
+pub records-preserved-then-not-goes_on : goal.records-preserved-then-not-goes_on
+records-preserved-then-not-goes_on g c =
     let p = c.args.self.now.runner.program.now.program.now in
     let elements = c.args.self.now.signature.now in
     let table = c.args.table.now in
@@ -32,6 +34,30 @@ records-preserved g c =
           on_more p elements table text given rows c.records.reader c.next.new.reader
           c.records.state _ (fields_of c.next.new.entry) at goes
           (c.in_ok-state.ensures.ok (rows ++ at.more) at.part);
+    }
+
+pub records-preserved : goal.records-preserved
+records-preserved g c =
+    let p = c.args.self.now.runner.program.now.program.now in
+    let elements = c.args.self.now.signature.now in
+    let table = c.args.table.now in
+    record {
+      state = record {
+        roll = c.records.invariant.state.roll;
+        round = record {
+          known = c.in-Ok.ensures.names;
+          signature = c.in-Ok.ensures.signature ∙ c.records.invariant.state.round.signature;
+        };
+        spare = c.records.invariant.state.spare;
+      };
+      on = λ text given rows reaches is.
+          let at = c.records.invariant.on text given rows reaches is in
+          let goes = rw c.if-not-branch.false at
+          (c.in_ok-next.ensures.goes text (given ++ at.more) at.reaches) in
+          on_more p elements table text given rows c.records.reader c.next.new.reader
+          c.records.state _ (fields_of c.next.new.entry) at goes
+          (part_one p elements table (rows ++ at.more) (fields_of c.next.new.entry) c.records.state _
+          at.part refl c.in-Ok.ensures.ok c.in-Ok.ensures.signature);
     }
 
 pub returns-then-not-branch-clause-ok : goal.returns-then-not-branch-clause-ok
@@ -92,6 +118,20 @@ returns-in_err-state-clause-err g c =
     on_refused elements c.args.table.now text given rows at.more c.next.new.reader
     (fields_of c.next.new.entry) c.in_err-state.field-0.0 goes
     (c.in_err-state.ensures.err (rows ++ at.more) at.part))
+
+pub returns-in-Err-clause-err : goal.returns-in-Err-clause-err
+returns-in-Err-clause-err g c = λ text given rows reaches is.
+    let p = c.args.self.now.runner.program.now.program.now in
+    let elements = c.args.self.now.signature.now in
+    let table = c.args.table.now in
+    let at = c.records.invariant.on text given rows reaches is in
+    let goes = rw c.if-not-branch.false at
+    (c.in_ok-next.ensures.goes text (given ++ at.more) at.reaches) in
+    on_refused elements table text given rows at.more c.next.new.reader
+    (fields_of c.next.new.entry) c.refused_record.result goes
+    (c.refused_record.ensures.halt (rows ++ at.more)
+    (part_kept p elements table (rows ++ at.more) c.records.state _ at.part refl
+    c.in-Err.ensures.kept))
 
 -- no text has that many records
 pub returns-clause-err : goal.returns-clause-err

@@ -4,7 +4,7 @@ use Rattle.std.proofs.lemmas.Result.{err_from_is_err_and}
 use Rattle.csv.specs.Records.{fields_of}
 use Rattle.lb_report.proofs.PartReads.{part_one}
 use Rattle.lb_report.proofs.QuotedTexts.{halt_on, part_kept}
-use Rattle.lb_report.proofs.rounds.Rounds.read_record.Goals as goal
+use Rattle.lb_report.proofs.rounds.Rounds.begin_trace.Goals as goal
 
 pub returns-in-Ok-clause-ok : goal.returns-in-Ok-clause-ok
 returns-in-Ok-clause-ok g c = λ rows is.
