@@ -356,7 +356,7 @@ impl TraceSet {
             (self.new ≡ record self.old { traces = with_trace self.old.traces name.now row.now }) }
         ensures err { OnErr result (self.new ≡ self.old) }
     {
-        self.numbers.reserve_row(self.columns.integers.len())?;
+        self.numbers.reserve_next(self.columns.integers.len())?;
         self.row_ends.reserve(1)?;
         self.words.reserve(words_of_row(self.columns.truths.len()))?;
         self.names.push(name)?;

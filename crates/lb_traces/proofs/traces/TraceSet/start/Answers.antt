@@ -51,7 +51,7 @@ numbers_are : (c : goal.After-push-2) → c.push_row.new.self.items
     ≡ c.self.inside.numbers.items ++ numbers_in c.args.row.now c.self.inside.columns.integers.items
 numbers_are c =
     c.push_row.ensures
-    ∙ ap₂ (λ a b. a ++ numbers_in c.args.row.now b) c.in_ok-reserve_row.ensures.items
+    ∙ ap₂ (λ a b. a ++ numbers_in c.args.row.now b) c.in_ok-reserve_next.ensures.items
     c.as_slice.ensures.value
 
 ends_are : (c : goal.After-push-2) → c.push-2.new.self.items ≡ c.self.inside.row_ends.items
@@ -74,7 +74,7 @@ pub push_row-requires-clause-room : goal.push_row-requires-clause-room
 push_row-requires-clause-room c =
     let long : c.len.result ≡ length c.self.inside.columns.integers.items =
     c.len.ensures ∙ c.self.inside.columns.integers.ok.0 in
-    omega (arith, c.in_ok-reserve_row.ensures.ok, long, ap length c.as_slice.ensures.value)
+    omega (arith, c.in_ok-reserve_next.ensures.ok, long, ap length c.as_slice.ensures.value)
 
 pub push_row-requires-clause-columns : goal.push_row-requires-clause-columns
 push_row-requires-clause-columns c =
@@ -136,8 +136,8 @@ pub push_words-requires-clause-ints : goal.push_words-requires-clause-ints
 push_words-requires-clause-ints c =
     ints-of c.args.self.now.signature c.args.row.now c.requires.row
 
-pub reserve_row-requires : goal.reserve_row-requires
-reserve_row-requires c =
+pub reserve_next-requires : goal.reserve_next-requires
+reserve_next-requires c =
     omega (arith, integers-limit _ _ _ _ _ _ _ _ c.self.invariant)
 
 on_err : {X E : Type 0} (result : Result X E) (P : Type 0) → P → OnErr result P
@@ -146,45 +146,45 @@ on_err (Err e) P p = p
 
 pub invariant_of-self : goal.invariant_of-self
 invariant_of-self c =
-    (changed_by refl c.in_err-reserve_row.ensures.items refl refl
+    (changed_by refl c.in_err-reserve_next.ensures.items refl refl
     (as_it_is c.self.invariant c.self.view_is)).is
 
-pub returns-in_err-reserve_row-clause-err : goal.returns-in_err-reserve_row-clause-err
-returns-in_err-reserve_row-clause-err c =
-    on_err _ _ (changed_by refl c.in_err-reserve_row.ensures.items refl refl
+pub returns-in_err-reserve_next-clause-err : goal.returns-in_err-reserve_next-clause-err
+returns-in_err-reserve_next-clause-err c =
+    on_err _ _ (changed_by refl c.in_err-reserve_next.ensures.items refl refl
     (as_it_is c.self.invariant c.self.view_is)).view
 
 pub invariant_of-self-in_err-reserve : goal.invariant_of-self-in_err-reserve
 invariant_of-self-in_err-reserve c =
-    (changed_by refl c.in_ok-reserve_row.ensures.items refl c.in_err-reserve.ensures.items
+    (changed_by refl c.in_ok-reserve_next.ensures.items refl c.in_err-reserve.ensures.items
     (as_it_is c.self.invariant c.self.view_is)).is
 
 pub returns-in_err-reserve-clause-err : goal.returns-in_err-reserve-clause-err
 returns-in_err-reserve-clause-err c =
     on_err _ _
-    (changed_by refl c.in_ok-reserve_row.ensures.items refl c.in_err-reserve.ensures.items
+    (changed_by refl c.in_ok-reserve_next.ensures.items refl c.in_err-reserve.ensures.items
     (as_it_is c.self.invariant c.self.view_is)).view
 
 pub invariant_of-self-in_err-reserve-2 : goal.invariant_of-self-in_err-reserve-2
 invariant_of-self-in_err-reserve-2 c =
-    (changed_by refl c.in_ok-reserve_row.ensures.items c.in_err-reserve-2.ensures.items
+    (changed_by refl c.in_ok-reserve_next.ensures.items c.in_err-reserve-2.ensures.items
     c.in_ok-reserve.ensures.items
     (as_it_is c.self.invariant c.self.view_is)).is
 
 pub returns-in_err-reserve-2-clause-err : goal.returns-in_err-reserve-2-clause-err
 returns-in_err-reserve-2-clause-err c =
-    on_err _ _ (changed_by refl c.in_ok-reserve_row.ensures.items c.in_err-reserve-2.ensures.items
+    on_err _ _ (changed_by refl c.in_ok-reserve_next.ensures.items c.in_err-reserve-2.ensures.items
     c.in_ok-reserve.ensures.items
     (as_it_is c.self.invariant c.self.view_is)).view
 
 pub invariant_of-self-in_err-push : goal.invariant_of-self-in_err-push
 invariant_of-self-in_err-push c =
-    (changed_by c.in_err-push.ensures.err c.in_ok-reserve_row.ensures.items
+    (changed_by c.in_err-push.ensures.err c.in_ok-reserve_next.ensures.items
     c.in_ok-reserve-2.ensures.items c.in_ok-reserve.ensures.items
     (as_it_is c.self.invariant c.self.view_is)).is
 
 pub returns-in_err-push-clause-err : goal.returns-in_err-push-clause-err
 returns-in_err-push-clause-err c =
-    on_err _ _ (changed_by c.in_err-push.ensures.err c.in_ok-reserve_row.ensures.items
+    on_err _ _ (changed_by c.in_err-push.ensures.err c.in_ok-reserve_next.ensures.items
     c.in_ok-reserve-2.ensures.items c.in_ok-reserve.ensures.items
     (as_it_is c.self.invariant c.self.view_is)).view
