@@ -298,8 +298,8 @@ impl Numbers {
         Ok(())
     }
 
-    /// Makes room for a row of `count` integers.
-    pub(crate) fn reserve_row(&mut self, count: usize) -> Result<(), AllocError>
+    // Makes room for a row of `count` integers.
+    fn reserve_row(&mut self, count: usize) -> Result<(), AllocError>
         requires { length self.old.items ≤ 4294967296 }
         ensures ok { OnOk result (count ≤ self.new.room) }
         ensures items { self.new.items ≡ self.old.items }
